@@ -1,0 +1,12 @@
+pub mod Tests
+pub mod Lists
+pub mod Bits
+pub mod Walks
+pub mod Certificate
+pub mod Places
+pub mod Repeats
+pub mod Multiples
+pub mod Forks
+pub mod Forever
+pub mod Trails
+pub mod Check

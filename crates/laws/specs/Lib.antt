@@ -1,0 +1,12 @@
+pub mod Bits
+pub mod Tests
+pub mod Multiples
+pub mod Lists
+pub mod Repeats
+pub mod Walks
+pub mod Certificate
+pub mod Places
+pub mod Forks
+pub mod Forever
+pub mod Trails
+pub mod Check

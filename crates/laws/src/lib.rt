@@ -1,0 +1,1 @@
+// Mathematics that knows no room: definitions in specs/, their laws in proofs/. No functions.

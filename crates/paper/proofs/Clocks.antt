@@ -1,0 +1,73 @@
+-- R and H of a room. A room within the limits has one clock, and it is short.
+--   multiple-one, greatest-first-one, clock-one   H, R and the clock are one
+--   common-is-multiple                            every common multiple of the periods is a multiple of H
+--   greatest-first-exists, clock-exists           a room with jobs has an R, one within the limits a clock
+--   period-positive                               no period is 0
+--   clock-short                                   R is at most 255, H at most 4,096
+use Prim.Native.Nat.{ℕ, zero, suc, _+_, _-_, _≤_, _<_, _%_}
+use native.Mathlib.Omega.{arith}
+use native.Mathlib.Numerals.{add-one}
+use mathlib.Core.Path.{_≡_, refl}
+use mathlib.Core.Logic.{⊎-elim}
+use Rattle.paper.specs.declared.Room.{Room}
+use Rattle.paper.specs.Room.{first, period, Multiple, GreatestFirst, Clock, Limits}
+use borrow.Author.Count.{below-more}
+use Rattle.laws.specs.Multiples.{Common}
+use Rattle.laws.proofs.Tests.{lt-or-le}
+use Rattle.laws.proofs.Multiples.{least-one, least-divides}
+
+-- ---- One clock
+
+pub multiple-one : (room : Room) {n h h′ : ℕ} → Multiple room n h → Multiple room n h′ → h ≡ h′
+multiple-one room x y = least-one x y
+
+module _ {room : Room} where
+  pub greatest-first-one : {R R′ : ℕ} → GreatestFirst room R → GreatestFirst room R′ → R ≡ R′
+  greatest-first-one x y = omega (arith, x .bound (y .which) (y .known), y .bound (x .which) (x .known))
+
+  pub clock-one : {R R′ H H′ : ℕ} → Clock room R H → Clock room R′ H′ → (R ≡ R′) × (H ≡ H′)
+  clock-one x y = (greatest-first-one (x .greatest) (y .greatest), multiple-one room (x .multiple) (y .multiple))
+
+  pub common-is-multiple : {R H : ℕ} → Clock room R H → (g : ℕ) → Common (period room) (room .jobs) g → g % H ≡ 0
+  common-is-multiple x g c = least-divides (x .multiple) g c
+
+-- ---- There is one
+
+-- where the greatest of f 0 to f (n - 1) stands
+abbrev Best : (ℕ → ℕ) → ℕ → Type 0
+Best f n = (j : ℕ) × (j < n) × ((i : ℕ) → i < n → f i ≤ f j)
+
+best-more : (f : ℕ → ℕ) (n : ℕ) → Best f n → Best f (n + 1)
+best-more f n b =
+    ⊎-elim
+    (λ (h : f (b .0) < f n). (n, omega arith, below-more (λ i. f i ≤ f n) n (λ i g. let w = b .2 i g in omega arith) (omega arith)))
+    (λ (h : f n ≤ f (b .0)). (b .0, omega arith, below-more (λ i. f i ≤ f (b .0)) n (b .2) h))
+    (lt-or-le (f (b .0)) (f n))
+
+best : (f : ℕ → ℕ) (n : ℕ) → Best f (suc n)
+best f zero = (0, omega arith, below-more (λ i. f i ≤ f 0) 0 (λ i g. absurd (omega arith)) (omega arith))
+best f (suc n) = rw add-one at (best-more f (suc n) (best f n))
+
+pub greatest-first-exists : (room : Room) → 1 ≤ room .jobs → (R : ℕ) × GreatestFirst room R
+greatest-first-exists room h =
+    let e : suc (room .jobs - 1) ≡ room .jobs = omega arith in
+    let b = rw e at (best (first room) (room .jobs - 1)) in
+    (first room (b .0), record { bound = b .2; which = b .0; known = b .1; same = refl })
+
+pub clock-exists : {room : Room} → Limits room → (R : ℕ) × (H : ℕ) × Clock room R H
+clock-exists {room} limits =
+    let g = greatest-first-exists room (limits .jobs .0) in
+    (g .0, limits .H, record { greatest = g .1; multiple = limits .multiple })
+
+-- ---- It is short
+
+module _ {room : Room} (limits : Limits room) where
+  pub period-positive : (i : ℕ) → i < room .jobs → 0 < period room i
+  period-positive i h = let j = limits .job i h in omega arith
+
+  pub clock-short : {R H : ℕ} → Clock room R H → (R ≤ 255) × (H ≤ 4096)
+  clock-short x =
+      let g = x .greatest in (
+        omega (arith, limits .job (g .which) (g .known) .early),
+        omega (arith, multiple-one room (x .multiple) (limits .multiple)),
+      )

@@ -1,0 +1,12 @@
+pub mod Units
+pub mod Beginnings
+pub mod Clocks
+pub mod Steps
+pub mod Uniques
+pub mod Refusals
+pub mod Tests
+pub mod Agree
+pub mod Laws
+pub mod Pasts
+pub mod Certificates
+pub mod Plans

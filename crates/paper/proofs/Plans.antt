@@ -1,0 +1,136 @@
+-- The plan, for ever: a list of masks follows the greatest ones exactly if it is a greedy walk, so the paper's plan is that of crate laws.
+-- With a certificate it exists for every feasible room, and a past in the centre goes on as a prefix and a cycle.
+--   Follows                 each mask is the greatest after its beginning
+--   greedy-follows, follows-greedy   greedy walks, for a feasible room
+--   plan-of, of-plan        plans
+--   plan-for-ever           prefix and cycle of a plan, the cycle n times: admissible, and made of greatest masks
+--   plan-endless            a plan's masks for ever are an endless schedule
+--   plan-exists             a feasible room that has a certificate has a plan, no longer than its count
+--   feasible-endless        it is feasible exactly if an endless schedule exists
+--   centre-for-ever         a past is in the centre exactly if it goes on as a prefix and a cycle repeated for ever
+use Prim.Native.Nat.{ℕ, _≤_, _<_}
+use native.Mathlib.Omega.{arith}
+use native.Mathlib.Nat.{mul-le-mul-left}
+use mathlib.Core.Path.{_≡_, refl, sym, subst}
+use mathlib.Core.Logic.{_↔_}
+use mathlib.Core.Bool.{Bool}
+use mathlib.Core.List.{List, [], _∷_, _++_, append-assoc}
+use lib.ListN.{length, take, drop, getD, length-append, take-append-drop, List·getD-append}
+use lib.Seq.{drop-cons, take-append-le, take-append-seam, getD-append-seam}
+use Rattle.paper.specs.declared.Room.{Room}
+use Rattle.paper.specs.declared.Configuration.{Configuration}
+use Rattle.paper.specs.Room.{Clock, Limits}
+use Rattle.paper.specs.Centre.{times, beginning, Centre, Feasible, Endless, ForEver}
+use Rattle.paper.specs.Configuration.{configuration}
+use Rattle.paper.specs.Plan.{Greatest, Plan}
+use Rattle.laws.specs.Walks.{after}
+use Rattle.laws.specs.Forever.{Greedy}
+use Rattle.laws.specs.Forever.Greedy.{end, pick}
+use Rattle.laws.specs.Certificate.{Greatest as Greatest-at}
+use Rattle.laws.specs.Forever as walks
+use Rattle.laws.proofs.Lists.{from-back, length-more, length-times, beginning-length}
+use Rattle.laws.proofs.Repeats.{first-along}
+use Rattle.laws.proofs.Forever.{greedy-walk, greedy-append, greedy-parts, plan-forever, feasible-plan, feasible-iff-endless, continues}
+use Rattle.paper.proofs.Steps.{step, begin}
+use Rattle.paper.proofs.Tests.{test}
+use Rattle.paper.proofs.Beginnings.{beginning-admissible, take-admissible}
+use Rattle.paper.proofs.Pasts.{at-after, past-walk, past-centre, past-greatest}
+use Rattle.paper.proofs.Certificates.{same-configuration, Certified}
+
+abbrev pub Follows : Room → List ℕ → Type 0
+Follows room l = (t : ℕ) → t < length l → Greatest room (take t l) (getD l t 0)
+
+-- of the last mask
+follows-last : {room : Room} (l : List ℕ) (m : ℕ) → Follows room (l ++ (m ∷ [])) → Greatest room l m
+follows-last {room} l m f =
+    subst (λ (x : List ℕ). Greatest room x m) (take-append-seam l (m ∷ []))
+    (subst (λ (x : ℕ). Greatest room (take (length l) (l ++ (m ∷ []))) x) (getD-append-seam l m [] 0) (f (length l) (rw length-more (omega arith))))
+
+follows-before : {room : Room} (l : List ℕ) (m : ℕ) → Follows room (l ++ (m ∷ [])) → Follows room l
+follows-before {room} l m f t h =
+    rw (take-append-le t l (m ∷ []) (omega arith), List·getD-append l (m ∷ []) 0 t h) at (f t (rw length-more (omega arith)))
+
+-- a past that goes on for ever is in the centre, in any room
+pub for-ever-centre : {room : Room} (l prefix cycle : List ℕ) → ForEver room l prefix cycle → Centre room l
+for-ever-centre {room} l prefix cycle f = record {
+  admissible = beginning-admissible room l (prefix ++ times 0 cycle) (rw append-assoc at (f .keeps 0));
+  continues = λ n. record { rest = prefix ++ times n cycle; long = long n; keeps = rw append-assoc at (f .keeps n) };
+}
+  where
+    long : (n : ℕ) → n ≤ length (prefix ++ times n cycle)
+    long n =
+        let t = f .turns in
+        let e = mul-le-mul-left n t in
+        simp (length-append, length-times) (omega arith)
+
+first-greatest : {C : Type 0} {test : C → ℕ → Bool} {step : C → ℕ → C} {c : C} {m : ℕ} {l : List ℕ} → Greedy test step c (m ∷ l) → Greatest-at test step c m
+first-greatest (pick g w) = g
+
+module _ {room : Room} (limits : Limits room) {R H : ℕ} (clock : Clock room R H) where
+  -- ---- Greedy walks
+
+  pub greedy-follows : (l : List ℕ) → Greedy (test room) (step room R H) begin l → Follows room l
+  greedy-follows l g t h =
+      let parts = greedy-parts (test room) (step room R H) begin (take t l) (drop t l) (rw take-append-drop g) in
+      let a = past-walk limits clock (take t l) .1 (greedy-walk (test room) (step room R H) (parts .0)) in
+      past-greatest limits clock (take t l) (getD l t 0) a .1
+      (rw (at-after limits clock (take t l)) (first-greatest (rw (drop-cons l t 0 h) at (parts .1))))
+
+  pub follows-greedy : (l : List ℕ) → Follows room l → Greedy (test room) (step room R H) begin l
+  follows-greedy = from-back (λ (l : List ℕ). Follows room l → Greedy (test room) (step room R H) begin l) (λ f. end)
+      (λ l m back f.
+      let g = follows-last l m f in
+      let a = beginning-admissible room l (m ∷ []) (g .stays .admissible) in
+      greedy-append (test room) (step room R H) (back (follows-before l m f))
+      (pick (rw (at-after limits clock l) at (past-greatest limits clock l m a .0 g)) end))
+
+  -- ---- Plans
+
+  configurations : (l : List ℕ) (t : ℕ) → configuration room R H (take t l) ≡ after (step room R H) begin (take t l)
+  configurations l t = at-after limits clock (take t l)
+
+  pub plan-of : {masks : List ℕ} {a : ℕ} → walks.Plan (test room) (step room R H) begin a (length masks) masks → Plan room R H masks a
+  plan-of {masks} {a} p = record {
+    follows = greedy-follows masks (p .greedy);
+    turns = first-along _ _ (λ t h. sym (configurations masks t)) (p .turns);
+  }
+
+  pub of-plan : {masks : List ℕ} {a : ℕ} → Plan room R H masks a → walks.Plan (test room) (step room R H) begin a (length masks) masks
+  of-plan {masks} {a} p = record {
+    greedy = follows-greedy masks (p .follows);
+    long = refl;
+    turns = first-along _ _ (λ t h. configurations masks t) (p .turns);
+  }
+
+  -- every beginning of prefix, cycle, cycle, .. is a past made of greatest masks
+  pub plan-for-ever : {masks : List ℕ} {a : ℕ} → Plan room R H masks a
+      → ForEver room [] (take a masks) (drop a masks) × ((n : ℕ) → Follows room (take a masks ++ times n (drop a masks)))
+  plan-for-ever {masks} {a} p =
+      let f = plan-forever (test room) (step room R H) (of-plan p) in (
+        record { turns = f .moves; keeps = λ n. past-walk limits clock _ .1 (greedy-walk (test room) (step room R H) (f .greedy n)) },
+        λ n. greedy-follows _ (f .greedy n),
+      )
+
+  -- ---- With a certificate
+
+  module _ {cs : List Configuration} (z : Certified room R H cs) where
+    pub plan-exists : Feasible room → (masks : List ℕ) × (a : ℕ) × (length masks ≤ length cs) × Plan room R H masks a
+    plan-exists c =
+        let r = feasible-plan (test room) (step room R H) z same-configuration (past-centre limits clock [] .0 c) in
+        let e : length (r .2) ≡ r .1 = r .4 .long in
+        let h : r .1 ≤ length cs = r .3 in
+        (r .2, r .0, omega arith, plan-of (rw e (r .4)))
+
+    pub feasible-endless : Feasible room ↔ ((s : ℕ → ℕ) × Endless room s)
+    feasible-endless = (
+      λ c. let s = feasible-iff-endless (test room) (step room R H) z .0 (past-centre limits clock [] .0 c) in
+          (s .0, λ n. past-walk limits clock _ .1 (s .1 n .0)),
+      λ s. record { admissible = take-admissible room (beginning (s .0) 1) 0 (s .1 1); continues = λ n. record { rest = beginning (s .0) n; long = rw beginning-length (omega arith); keeps = s .1 n } },
+    )
+
+    pub centre-for-ever : (l : List ℕ) → Centre room l ↔ ((prefix : List ℕ) × (cycle : List ℕ) × ForEver room l prefix cycle)
+    centre-for-ever l = (
+      λ c. let r = continues (test room) (step room R H) z same-configuration l (past-centre limits clock l .0 c) in
+          (r .0, r .1, record { turns = r .2; keeps = λ n. rw append-assoc (past-walk limits clock _ .1 (r .3 n .0)) }),
+      λ r. for-ever-centre l (r .0) (r .1) (r .2),
+    )
