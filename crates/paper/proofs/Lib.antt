@@ -10,3 +10,7 @@ pub mod Laws
 pub mod Pasts
 pub mod Certificates
 pub mod Plans
+pub mod Words
+pub mod Automaton
+pub mod Products
+pub mod Languages

@@ -1,0 +1,180 @@
+-- Document 004's languages and this paper's pasts. In any room an admissible past is a word of the product of the jobs' languages met
+-- with S_p*; sections and links take away from these words, and without them nothing is taken away.
+--   Independent                        a room with no sections and no links
+--   alone, past                        the room that has one job alone, on one engine, and a word as a past of it
+--   Separate                           each mask keeps the engine rule, and each job's word is a time-valid behaviour
+--   compatible-separate                the words of the product met with S_p* are these
+--   job-time-valid                     Definition 4: a word is a time-valid behaviour of a job exactly if it keeps the job's rules
+--   admissible-within, centre-within   in any room an admissible past is such a word, and the centre lies within Definition 6
+--   admissible-compatible              in an independent room the admissible pasts are these words
+--   centre-valid                       Definition 6: the centre is the language of time-valid behaviours of the system
+--   feasible-valid                     Theorem 1: a room is feasible exactly if that language is not empty
+use Prim.Native.Nat.{ℕ, zero, suc, _≤_, _<_, _^_}
+use native.Mathlib.Omega.{arith}
+use mathlib.Core.Path.{_≡_, refl, ap₂}
+use mathlib.Core.Logic.{_↔_, ⊎-elim}
+use mathlib.Core.Bool.{Bool, true, false}
+use mathlib.Core.List.{List, [], _∷_, _++_, map}
+use lib.Count.{ones-le}
+use lib.Dec.{lit<}
+use lib.ListN.{length, take, getD, length-append, replicate, List·getD-map}
+use Rattle.laws.proofs.Tests.{lt-or-le}
+use Rattle.laws.proofs.Bits.{bit-beyond, below-of-bits}
+use Rattle.paper.specs.declared.Room.{Room}
+use Rattle.paper.specs.declared.Job.{Job}
+use Rattle.paper.specs.Room.{job, noJob, noSection, noLink, GoodJob, EachJobFits, Limits}
+use Rattle.paper.specs.Past.{bit, EngineRule, Slot, Admissible}
+use Rattle.paper.specs.Centre.{Centre, Feasible}
+use Rattle.paper.specs.Languages.{value, TimeValid, Shared, Compatible, SystemValid}
+use Rattle.paper.proofs.Beginnings.{beginning-admissible}
+use Rattle.paper.proofs.Words.{letter, word, Keeps}
+use Rattle.paper.proofs.Automaton.{valid-keeps, admissible-valid}
+use Rattle.paper.proofs.Products.{value-lt, star-letters, product-apart, shared-few}
+
+-- ---- What the theorems speak of
+
+-- document 004, section 3, has independent tasks
+pub record Independent (room : Room) : Type 0 where
+  pub no-sections : room .sections ≡ 0
+  pub no-links : room .links ≡ 0
+
+abbrev pub alone : Job → Room
+alone j = record {
+  engines = 1;
+  jobs = 1;
+  sections = 0;
+  links = 0;
+  job = j ∷ replicate 15 noJob;
+  section = replicate 32 noSection;
+  link = replicate 16 noLink;
+}
+
+unfoldable pub past : List Bool → List ℕ
+past w = map value w
+
+-- ---- Job by job
+
+pub record Separate (room : Room) (l : List ℕ) : Type 0 where
+  pub engines : (t : ℕ) → t < length l → EngineRule room (getD l t 0)
+  pub jobs : (i : ℕ) → i < room .jobs → TimeValid (job room i) (word i l)
+
+engine-shared : (room : Room) (m : ℕ) → EngineRule room m ↔ ((m < 2 ^ (room .jobs)) × Shared (room .jobs) (room .engines) m)
+engine-shared room m = (
+  λ x. let h = below-of-bits m (room .jobs) (x .known) in (h, shared-few (room .jobs) (room .engines) m h .1 (x .few)),
+  λ x. record { known = λ i. bit-beyond m (room .jobs) i (x .0); few = shared-few (room .jobs) (room .engines) m (x .0) .0 (x .1) },
+)
+
+pub compatible-separate : (room : Room) (l : List ℕ) → Compatible room l ↔ Separate room l
+compatible-separate room l = (
+  λ x.
+      let a = product-apart (λ i. TimeValid (job room i)) (room .jobs) l .0 (x .jobs) in
+      let s = star-letters (Shared (room .jobs) (room .engines)) l .0 (x .shared) in
+      record { engines = λ t h. engine-shared room (getD l t 0) .1 (a .known t h, s t h); jobs = a .each },
+  λ x. record {
+    jobs = product-apart (λ i. TimeValid (job room i)) (room .jobs) l .1
+        (record { known = λ t h. engine-shared room (getD l t 0) .0 (x .engines t h) .0; each = x .jobs });
+    shared = star-letters (Shared (room .jobs) (room .engines)) l .1 (λ t h. engine-shared room (getD l t 0) .0 (x .engines t h) .1);
+  },
+)
+
+module _ (room : Room) (fit : EachJobFits room) (l : List ℕ) where
+  admissible-separate : Admissible room l → Separate room l
+  admissible-separate a = record {
+    engines = λ t h. a .slots t h .engines;
+    jobs = λ i h. admissible-valid room i (fit i h) h l a;
+  }
+
+  separate-admissible : Independent room → Separate room l → Admissible room l
+  separate-admissible free x = record { slots = slots; end = λ i k h. keeps i h .end k }
+    where
+      keeps : (i : ℕ) → i < room .jobs → Keeps room l i
+      keeps i h = valid-keeps room i (fit i h) l (x .jobs i h)
+
+      slots : (t : ℕ) → t < length l → Slot room (take t l) (getD l t 0)
+      slots t h = record {
+        engines = x .engines t h;
+        job = λ i b. ⊎-elim
+            (λ (g : i < room .jobs). keeps i g .slots t h b)
+            (λ (g : room .jobs ≤ i). absurd (omega (arith, x .engines t h .known i g)))
+            (lt-or-le i (room .jobs));
+        block = λ b i j u v. absurd (omega (arith, u .listed, free .no-sections));
+        link = λ q k g b c. absurd (omega (arith, g, free .no-links));
+      }
+
+-- ---- One job
+
+letter-past : (b : Bool) → letter 0 (value b) ≡ b
+unfolding bit value
+letter-past true = refl
+letter-past false = refl
+
+word-past : (w : List Bool) → word 0 (past w) ≡ w
+unfolding word past
+word-past [] = refl
+word-past (b ∷ w) = ap₂ (λ (x : Bool) (r : List Bool). x ∷ r) (letter-past b) (word-past w)
+
+module _ (j : Job) (good : GoodJob j) where
+  alone-fits : EachJobFits (alone j)
+  alone-fits zero h = good
+  alone-fits (suc i) h = absurd (omega arith)
+
+  alone-engines : (w : List Bool) (t : ℕ) → EngineRule (alone j) (getD (past w) t 0)
+  unfolding past value
+  alone-engines w t =
+      let b = getD w t false in
+      rw (List·getD-map value w t false)
+      (record { known = λ i. bit-beyond (value b) 1 i (value-lt b); few = ones-le 1 (value b) (value-lt b) })
+
+  -- Definition 4. In the room with the job alone no rule but the job's own asks anything
+  pub job-time-valid : (w : List Bool) → TimeValid j w ↔ Admissible (alone j) (past w)
+  job-time-valid w = (
+    λ x. separate-admissible (alone j) alone-fits (past w) (record { no-sections = refl; no-links = refl })
+        (record { engines = λ t h. alone-engines w t; jobs = valid x }),
+    λ a. rw (word-past w) at (admissible-separate (alone j) alone-fits (past w) a .jobs 0 (lit< tt)),
+  )
+    where
+      valid : TimeValid j w → (i : ℕ) → i < 1 → TimeValid (job (alone j) i) (word i (past w))
+      valid x zero h = rw (word-past w) x
+      valid x (suc i) h = absurd (omega arith)
+
+-- ---- The system
+
+module _ (room : Room) (limits : Limits room) where
+  pub admissible-within : (l : List ℕ) → Admissible room l → Compatible room l
+  admissible-within l a = compatible-separate room l .1 (admissible-separate room (limits .job) l a)
+
+  pub centre-within : (l : List ℕ) → Centre room l → SystemValid room l
+  centre-within l x = record {
+    extends = λ n. let y = x .continues (suc n) in record { β = y .rest; long = y .long; within = admissible-within (l ++ y .rest) (y .keeps) };
+  }
+
+  module _ (free : Independent room) where
+    compatible-admissible : (l : List ℕ) → Compatible room l → Admissible room l
+    compatible-admissible l x = separate-admissible room (limits .job) l free (compatible-separate room l .0 x)
+
+    pub admissible-compatible : (l : List ℕ) → Admissible room l ↔ Compatible room l
+    admissible-compatible l = (admissible-within l, compatible-admissible l)
+
+    -- Definition 6
+    pub centre-valid : (l : List ℕ) → Centre room l ↔ SystemValid room l
+    centre-valid l = (
+      centre-within l,
+      λ x. record {
+        admissible = let y = x .extends 0 in beginning-admissible room l (y .β) (compatible-admissible (l ++ y .β) (y .within));
+        continues = λ n.
+            let y = x .extends n in
+            record { rest = y .β; long = omega (arith, y .long); keeps = compatible-admissible (l ++ y .β) (y .within) };
+      },
+    )
+
+    -- Theorem 1
+    pub feasible-valid : Feasible room ↔ ((l : List ℕ) × SystemValid room l)
+    feasible-valid = (
+      λ x. ([], centre-valid [] .0 x),
+      λ x. let y = centre-valid (x .0) .1 (x .1) in record {
+        admissible = beginning-admissible room [] (x .0) (y .admissible);
+        continues = λ n.
+            let z = y .continues n in
+            record { rest = x .0 ++ z .rest; long = omega (arith, length-append (x .0) (z .rest), z .long); keeps = z .keeps };
+      },
+    )

@@ -1,0 +1,87 @@
+-- Laws for the loops of the check: what a turn adds, and what the end says.
+--   holds, fails                    a verdict, from a test of its negation
+--   least-found, least-none         a search for the least bad entry ends at it, or finds none
+--   first-many, first-of            so does one for more than most entries, and then for the least bad one
+--   multiple-next                   the least common multiple with one more number
+--   within-all, within-limits       where all jobs are within 4,096, H is their multiple; within the limits they are
+--   Greatest                        the greatest of n numbers
+--   greatest-one                    of one number
+--   greatest-more, greatest-kept    with one more, which is greater or not
+use Prim.Native.Nat.{ℕ, _+_, _≤_, _<_, _%_}
+use native.Mathlib.Omega.{arith}
+use mathlib.Core.Path.{_≡_, refl, sym, subst, _∙_}
+use mathlib.Core.Logic.{⊎-elim}
+use mathlib.Core.Bool.{Bool, true, false, not}
+use borrow.Author.Count.{below-none, below-more}
+use borrow.Author.Tests.{not-false}
+use Rattle.laws.specs.Multiples.{LeastCommon}
+use Rattle.laws.proofs.Tests.{T-of, lt-or-le}
+use Rattle.laws.proofs.Multiples.{least-more-times}
+use Rattle.paper.specs.declared.Room.{Room}
+use Rattle.paper.specs.Room.{Multiple, Limits}
+use Rattle.paper.specs.Reply.{LeastBad, FirstBad, many, one}
+use Rattle.paper.proofs.Uniques.{passes-long}
+use Rattle.room.specs.Checks.{Verdict, Search, LeastMultiple, Within}
+
+-- ---- Bad entries
+
+module _ {fits : Bool} {P : Type 0} (v : Verdict fits P) where
+  pub holds : not fits ≡ false → P
+  holds e = v .yes (T-of fits (not-false fits e))
+
+  pub fails : not fits ≡ true → ¬ P
+  fails e = v .no (T-of (not fits) e)
+
+module _ {Fine : ℕ → Type 0} {n i : ℕ} (earlier : (k : ℕ) → k < i → Fine k) where
+  pub least-found : i < n → ¬ Fine i → Search (LeastBad Fine n) ((k : ℕ) → k < n → Fine k) n i
+  least-found l b = record { found = λ _. record { below = l; bad = b; earlier = earlier }; none = λ g. absurd (omega arith) }
+
+  pub least-none : n ≤ i → Search (LeastBad Fine n) ((k : ℕ) → k < n → Fine k) n i
+  least-none g = record { found = λ l. absurd (omega arith); none = λ _ k l. earlier k (omega arith) }
+
+module _ {Fine : ℕ → Type 0} {n most : ℕ} where
+  pub first-many : most < n → Search (FirstBad Fine n most) ((n ≤ most) × ((k : ℕ) → k < n → Fine k)) n most
+  first-many l = record { found = λ _. many l refl; none = λ g. absurd (omega arith) }
+
+  pub first-of : {i : ℕ} → n ≤ most → Search (LeastBad Fine n) ((k : ℕ) → k < n → Fine k) n i
+      → Search (FirstBad Fine n most) ((n ≤ most) × ((k : ℕ) → k < n → Fine k)) n i
+  first-of g s = record { found = λ l. one g (s .found l); none = λ e. (g, s .none e) }
+
+-- ---- H
+
+pub multiple-next : {f : ℕ → ℕ} {n h m : ℕ} → LeastCommon f n h → LeastMultiple h (f n) m → LeastCommon f (n + 1) m
+multiple-next {f} {n} {h} {m} a l =
+    rw (l .same) (least-more-times a (l .times) (l .some) (subst (λ (x : ℕ). x % f n ≡ 0) (l .same) (l .divided)) (l .least))
+
+module _ {room : Room} {i h : ℕ} (w : Within room i h) where
+  pub within-all : room .jobs ≤ i → Multiple room (room .jobs) h
+  within-all l = let e : i ≡ room .jobs = omega arith in rw e at (w .multiple)
+
+  pub within-limits : Limits room → Multiple room (room .jobs) h
+  within-limits limits =
+      ⊎-elim
+      (λ (l : i < room .jobs). absurd (omega (arith, passes-long (w .passes l) (limits .multiple), limits .short)))
+      within-all
+      (lt-or-le i (room .jobs))
+
+-- ---- R
+
+pub record Greatest (f : ℕ → ℕ) (n r : ℕ) : Type 0 where
+  pub bound : (i : ℕ) → i < n → f i ≤ r
+  pub which : ℕ
+  pub known : which < n
+  pub same : f which ≡ r
+
+module _ (f : ℕ → ℕ) where
+  pub greatest-one : Greatest f 1 (f 0)
+  greatest-one = record { bound = below-more _ 0 (below-none _) (omega arith); which = 0; known = omega arith; same = refl }
+
+  module _ {n r v : ℕ} (g : Greatest f n r) where
+    greatest-at : (j : ℕ) → j < n + 1 → f j ≡ v → r ≤ v → f n ≤ v → Greatest f (n + 1) v
+    greatest-at j k e a b = record { bound = below-more (λ i. f i ≤ v) n (λ i l. omega (arith, g .bound i l)) b; which = j; known = k; same = e }
+
+    pub greatest-more : r < f n → v ≡ f n → Greatest f (n + 1) v
+    greatest-more l e = greatest-at n (omega arith) (sym e) (omega arith) (omega arith)
+
+    pub greatest-kept : f n ≤ r → v ≡ r → Greatest f (n + 1) v
+    greatest-kept l e = greatest-at (g .which) (omega (arith, g .known)) (g .same ∙ sym e) (omega arith) (omega arith)
