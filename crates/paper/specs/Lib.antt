@@ -6,3 +6,4 @@ pub mod Plan
 pub mod Text
 pub mod Reply
 pub mod Languages
+pub mod Answer
