@@ -10,3 +10,4 @@ pub mod Forks
 pub mod Forever
 pub mod Trails
 pub mod Check
+pub mod Judge

@@ -14,3 +14,7 @@ pub mod Words
 pub mod Automaton
 pub mod Products
 pub mod Languages
+pub mod Searches
+pub mod Limits
+pub mod RowTests
+pub mod Rows

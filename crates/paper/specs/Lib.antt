@@ -7,3 +7,4 @@ pub mod Text
 pub mod Reply
 pub mod Languages
 pub mod Answer
+pub mod Rows
