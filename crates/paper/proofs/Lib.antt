@@ -18,3 +18,11 @@ pub mod Searches
 pub mod Limits
 pub mod RowTests
 pub mod Rows
+pub mod Digits
+pub mod Lines
+pub mod Texts
+pub mod BadLines
+pub mod Frames
+pub mod Entries
+pub mod Grammar
+pub mod Reader
