@@ -11,3 +11,5 @@ pub mod Forever
 pub mod Trails
 pub mod Check
 pub mod Judge
+pub mod Words
+pub mod Choices

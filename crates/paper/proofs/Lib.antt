@@ -26,3 +26,4 @@ pub mod Frames
 pub mod Entries
 pub mod Grammar
 pub mod Reader
+pub mod Replies
