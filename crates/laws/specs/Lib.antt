@@ -13,3 +13,4 @@ pub mod Check
 pub mod Judge
 pub mod Words
 pub mod Choices
+pub mod Probes

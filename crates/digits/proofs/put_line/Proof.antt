@@ -1,0 +1,60 @@
+-- `digits::put_line` meets its contract. The loop's invariant: the digits of the first i bytes are put.
+use Prim.Native.Nat.{_-_}
+use borrow.Author.Needs.{needs}
+use lib.ListN.{length}
+use Rattle.digits.proofs.Buffers.{LineTo, line-start, line-turn, line-end}
+use Rattle.digits.proofs.put_line.Statement.{statement}
+use Rattle.digits.proofs.put_line.Tie as tie
+
+abbrev Inv-loop : tie.InvT-loop
+Inv-loop buffer₀ at frame next₀ i₀ buffer next i = LineTo buffer₀ at frame i next buffer
+
+abbrev μ-loop : tie.MeasureT-loop
+μ-loop buffer₀ at frame next₀ i₀ buffer next i = length frame - i
+
+loop-holds : tie.Need-loop-holds Inv-loop μ-loop
+loop-holds c = line-start _ _ _ (c .before .before .pre)
+
+shared-slice-read-put-byte : tie.Need-shared-slice-read-put-byte Inv-loop μ-loop
+shared-slice-read-put-byte c = search needs
+
+put-byte-requires : tie.Need-put-byte-requires Inv-loop μ-loop
+put-byte-requires c κs = search needs
+
+add-i : tie.Need-add-i Inv-loop μ-loop
+add-i c = search needs
+
+loop-less : tie.Need-loop-less Inv-loop μ-loop
+loop-less c = search needs
+
+loop-again : tie.Need-loop-again Inv-loop μ-loop
+loop-again c = line-turn _ _ _ (search needs) (c .before .before .before .before .before .before .loop .inv) (search needs) (c .before .before .put-byte .ensures) (c .before .before .put-byte .kept .0)
+
+slice-write-buffer : tie.Need-slice-write-buffer Inv-loop μ-loop
+slice-write-buffer c = search needs
+
+add-result : tie.Need-add-result Inv-loop μ-loop
+add-result c = search needs
+
+same-length : tie.Need-same-length Inv-loop μ-loop
+same-length c = search needs
+
+returns : tie.Need-returns Inv-loop μ-loop
+returns c = line-end _ _ _ (search needs) (c .before .loop .inv) (search needs)
+
+pub put-line-spec : {M : Type 1} → statement M
+put-line-spec =
+    tie.close
+    (tie.spec
+    Inv-loop
+    μ-loop
+    loop-holds
+    shared-slice-read-put-byte
+    put-byte-requires
+    add-i
+    loop-less
+    loop-again
+    slice-write-buffer
+    add-result
+    same-length
+    returns)
