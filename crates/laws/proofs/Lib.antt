@@ -14,3 +14,5 @@ pub mod Judge
 pub mod Words
 pub mod Choices
 pub mod Probes
+pub mod Marks
+pub mod Fills

@@ -14,3 +14,4 @@ pub mod Judge
 pub mod Words
 pub mod Choices
 pub mod Probes
+pub mod Marks

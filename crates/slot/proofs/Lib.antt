@@ -1,0 +1,4 @@
+pub mod Tests
+pub mod Jobs
+pub mod Counts
+pub mod Blocks

@@ -1,0 +1,569 @@
+//! The exported calls against the reference, on texts, rooms and pasts from a fixed seed:
+//! `cargo test --release --test compare`
+
+#[allow(dead_code)]
+mod generate;
+mod lending;
+#[allow(dead_code)]
+mod reference;
+
+use generate::{Random, Sizes};
+use reference::{Memory, Reply, Subject, LONGEST_TABLE, ROOM_BYTES};
+use std::collections::BTreeMap;
+use std::process::ExitCode;
+use std::ptr::{null, null_mut};
+use std::time::Instant;
+use stoerwjok::{exported, Code, Numbers, Room};
+
+const SEED: u64 = 8;
+const TEXTS: u64 = 40_000;
+const ROOMS: u64 = 40_000;
+const PLANNED: u64 = 12_000;
+const MOST_STEPS: usize = 10_000;
+const SHOWN: usize = 10;
+
+fn main() -> ExitCode {
+    let start = Instant::now();
+    let mut totals = Totals::default();
+    for case in 0..TEXTS {
+        compare_text(&mut Random::new(SEED + case), &mut totals);
+    }
+    for case in 0..ROOMS {
+        compare_room(&mut Random::new(SEED + (1 << 32) + case), &mut totals);
+    }
+    for case in 0..PLANNED {
+        compare_plans_and_pasts(&mut Random::new(SEED + (2 << 32) + case), &mut totals);
+    }
+    compare_long_tables(&mut Random::new(SEED + (3 << 32)), &mut totals);
+    compare_null_pointers(&mut totals);
+    totals.print();
+    println!("seed {SEED}, {:.1} s", start.elapsed().as_secs_f64());
+    match totals.differences.is_empty() {
+        true => ExitCode::SUCCESS,
+        false => ExitCode::FAILURE,
+    }
+}
+
+/// How many cases of each kind, and of each call, got which code.
+#[derive(Default)]
+struct Totals {
+    kinds: BTreeMap<String, [u64; 13]>,
+    calls: BTreeMap<&'static str, [u64; 13]>,
+    inputs: [u64; 3],
+    not_decided: u64,
+    greatest_count: u64,
+    longest_plan: u64,
+    longest_past: usize,
+    differences: Vec<String>,
+}
+
+impl Totals {
+    fn add(&mut self, kind: &str, call: &'static str, reply: &Reply, difference: Option<String>) {
+        let code = reply.code as usize;
+        self.kinds.entry(kind.to_string()).or_default()[code] += 1;
+        self.calls.entry(call).or_default()[code] += 1;
+        self.greatest_count = self.greatest_count.max(reply.count);
+        self.longest_plan = self.longest_plan.max(reply.prefix + reply.cycle);
+        if let Some(difference) = difference {
+            self.differences.push(format!("{kind}: {difference}"));
+        }
+    }
+
+    fn print(&self) {
+        println!("\nCases by kind");
+        for (kind, codes) in &self.kinds {
+            print_codes(kind, codes);
+        }
+        println!("\nCases by call");
+        let mut all = [0; 13];
+        for (call, codes) in &self.calls {
+            print_codes(call, codes);
+            all.iter_mut().zip(codes).for_each(|(sum, n)| *sum += n);
+        }
+        print_codes("all", &all);
+        let [texts, rooms, pasts] = self.inputs;
+        println!("\n{texts} texts, {rooms} rooms, {pasts} pasts");
+        println!("greatest count {}", self.greatest_count);
+        println!(
+            "longest plan {}, longest past {}",
+            self.longest_plan, self.longest_past
+        );
+        println!(
+            "left out, since the reference gave up: {}",
+            self.not_decided
+        );
+        println!("differences: {}", self.differences.len());
+        for difference in self.differences.iter().take(SHOWN) {
+            println!("  {difference}");
+        }
+    }
+}
+
+fn print_codes(name: &str, codes: &[u64; 13]) {
+    let named = Code::ALL
+        .iter()
+        .zip(codes)
+        .filter(|(_, number)| **number > 0);
+    let parts: Vec<String> = named
+        .map(|(code, number)| format!("{code} {number}"))
+        .collect();
+    println!(
+        "{name:28} {:7}: {}",
+        codes.iter().sum::<u64>(),
+        parts.join(", ")
+    );
+}
+
+/// A lent buffer within a wider one, with anything in both.
+struct Lent<T> {
+    all: Vec<T>,
+    found: Vec<T>,
+    length: usize,
+}
+
+const MARGIN: usize = 6;
+
+impl<T: Copy + PartialEq> Lent<T> {
+    fn new(length: usize, mut any: impl FnMut() -> T) -> Lent<T> {
+        let all: Vec<T> = (0..length + 2 * MARGIN).map(|_| any()).collect();
+        Lent {
+            found: all.clone(),
+            all,
+            length,
+        }
+    }
+
+    fn with(contents: &[T], any: impl FnMut() -> T) -> Lent<T> {
+        let mut lent = Lent::new(contents.len(), any);
+        lent.lend().copy_from_slice(contents);
+        lent.found.copy_from_slice(&lent.all);
+        lent
+    }
+
+    fn lend(&mut self) -> &mut [T] {
+        &mut self.all[MARGIN..MARGIN + self.length]
+    }
+
+    /// Whether it holds this from its start, and all else is as found.
+    fn holds(&self, written: &[T]) -> bool {
+        let end = MARGIN + written.len();
+        self.all[..MARGIN] == self.found[..MARGIN]
+            && self.all[MARGIN..end] == *written
+            && self.all[end..] == self.found[end..]
+    }
+}
+
+fn lent_table(random: &mut Random, length: usize) -> Lent<u64> {
+    match random.below(4) {
+        0 => Lent::new(length, || u64::MAX),
+        1 => Lent::new(length, || random.next() >> 40),
+        _ => Lent::new(length, || random.next()),
+    }
+}
+
+fn table_holds(table: &Lent<u64>, code: u64) -> bool {
+    match reference::table_after(code) {
+        Memory::AsFound => table.holds(&[]),
+        Memory::Zeros => table.holds(&vec![0; table.length]),
+    }
+}
+
+/// A call is made by its wrapper, or as exported with lent numbers.
+enum Way<'a> {
+    Wrapper,
+    Exported(&'a mut [u64]),
+}
+
+/// Makes the call and says how its reply differs.
+fn replied(
+    random: &mut Random,
+    expected: &Reply,
+    call: impl FnOnce(Way) -> Numbers,
+) -> Option<String> {
+    if random.one_in(2) {
+        let given = call(Way::Wrapper);
+        return differs(given == numbers(expected.numbers()), &given);
+    }
+    let length = match random.one_in(2) {
+        true => 5,
+        false => random.below(9),
+    };
+    let mut lent = Lent::new(length, || random.next());
+    let code = call(Way::Exported(lent.lend())).code;
+    let written = match length < 5 {
+        true => Vec::new(),
+        false => expected.numbers().to_vec(),
+    };
+    let same = code == expected.code && lent.holds(&written);
+    differs(same, &(code, lent.lend()))
+}
+
+fn differs(same: bool, given: &impl std::fmt::Debug) -> Option<String> {
+    (!same).then(|| format!("given {given:?}"))
+}
+
+fn numbers([code, count, place, prefix, cycle]: [u64; 5]) -> Numbers {
+    Numbers {
+        code,
+        count,
+        place,
+        prefix,
+        cycle,
+    }
+}
+
+fn five(call: impl FnOnce(&mut [u64]) -> u64) -> Numbers {
+    let mut lent = [0; 5];
+    call(&mut lent);
+    numbers(lent)
+}
+
+fn returned(code: u64) -> Numbers {
+    Numbers {
+        code,
+        ..Numbers::default()
+    }
+}
+
+/// What is wrong with a case, in one line.
+fn difference(
+    call: impl FnOnce() -> String,
+    expected: &Reply,
+    reply: Option<String>,
+    buffers: &[(&str, bool)],
+) -> Option<String> {
+    let wrong = buffers.iter().filter(|(_, same)| !same);
+    let mut parts: Vec<String> = wrong.map(|(name, _)| format!("{name} buffer")).collect();
+    parts.extend(reply);
+    let wrong = parts.join(", ");
+    (!parts.is_empty()).then(|| format!("{}, expected {expected:?}, {wrong}", call()))
+}
+
+fn compare_text(random: &mut Random, totals: &mut Totals) {
+    let damage = random.pick(&generate::DAMAGES);
+    let mut room = any_room(random);
+    if random.one_in(4) {
+        generate::spoil(random, &mut room);
+    }
+    let whole = match random.one_in(12) {
+        true => generate::longest(random),
+        false => reference::text::render(&room),
+    };
+    let text = generate::damaged(random, &whole, damage);
+    let subject = Subject::new(&text, MOST_STEPS);
+    let kind = format!("text, {damage}");
+    totals.inputs[0] += 1;
+    check(random, totals, &kind, &text, &subject);
+    read(random, totals, &kind, &text);
+    let table = table_length(random, &subject);
+    let buffer = random.below(40);
+    plan(random, totals, &kind, &text, &subject, table, buffer);
+    let masks = random.pick(&generate::PASTS);
+    let past = generate::past(random, &subject, masks);
+    judge(random, totals, &kind, &text, &subject, table, &past);
+}
+
+fn compare_room(random: &mut Random, totals: &mut Totals) {
+    let mut room = any_room(random);
+    let faults = random.below(4);
+    for _ in 0..faults {
+        generate::spoil(random, &mut room);
+    }
+    let kind = [
+        "room",
+        "room, one fault",
+        "room, two faults",
+        "room, three faults",
+    ][faults];
+    let bytes = generate::bytes(random, &room);
+    let text = reference::text::render(&room);
+    let buffer = match random.below(6) {
+        0 => text.len() - 1,
+        1 => text.len() + random.below(50),
+        2 => random.below(700),
+        3 => random.below(4),
+        _ => text.len(),
+    };
+    totals.inputs[1] += 1;
+    write(random, totals, kind, &bytes, buffer);
+    check(random, totals, kind, &text, &Subject::new(&text, 0));
+}
+
+fn compare_plans_and_pasts(random: &mut Random, totals: &mut Totals) {
+    let text = match random.one_in(100) {
+        true => generate::longest(random),
+        false => reference::text::render(&any_room(random)),
+    };
+    let subject = Subject::new(&text, MOST_STEPS);
+    totals.inputs[1] += 1;
+    let exact = 4 * subject.least_count() + random.below(4);
+    let slots = subject.masks().len();
+    let longer = slots + 1 + random.below(20);
+    let any = random.below(4000);
+    let buffers = [
+        ("plan, table one less", exact - 4, longer),
+        ("plan, table exact", exact, longer),
+        ("plan, any table", any, longer),
+        ("plan, table of 0 to 8", random.below(9), longer),
+        ("plan, buffer exact", exact, slots),
+        (
+            "plan, buffer one less",
+            exact + any,
+            slots.saturating_sub(1),
+        ),
+        ("plan, buffer empty", exact, 0),
+    ];
+    for (kind, table, buffer) in buffers {
+        plan(random, totals, kind, &text, &subject, table, buffer);
+    }
+    for name in generate::PASTS {
+        let past = generate::past(random, &subject, name);
+        let table = table_length(random, &subject);
+        let kind = format!("past, {name}");
+        judge(random, totals, &kind, &text, &subject, table, &past);
+    }
+}
+
+/// Mostly enough for the configurations, sometimes just not.
+fn table_length(random: &mut Random, subject: &Subject) -> usize {
+    let exact = 4 * subject.least_count();
+    match random.below(12) {
+        0 => random.below(9),
+        1 => random.below(2000),
+        2 => exact.saturating_sub(1),
+        3..=6 => exact + random.below(4),
+        _ => exact + random.below(400),
+    }
+}
+
+fn any_room(random: &mut Random) -> reference::Room {
+    let sizes: &Sizes = match random.below(64) {
+        0 | 1 => &generate::FULL,
+        2 | 3 => &generate::WIDE,
+        4 => &generate::HIGH,
+        5..=15 => &generate::TINY,
+        16..=27 => &generate::SMALL,
+        _ => &generate::USUAL,
+    };
+    generate::room(random, sizes)
+}
+
+fn compare_long_tables(random: &mut Random, totals: &mut Totals) {
+    let texts: [&[u8]; 4] = [
+        b"a001\na100010202\na100010202\nff\n",
+        b"a001\na100010102\na100010102\nff\n",
+        b"a009\na100010202\nff\n",
+        b"a001\na100010202\n",
+    ];
+    let kind = "longest table";
+    for text in texts {
+        let subject = Subject::new(text, MOST_STEPS);
+        for table in [LONGEST_TABLE, LONGEST_TABLE + 1, LONGEST_TABLE + 4] {
+            plan(random, totals, kind, text, &subject, table, 1);
+            plan(random, totals, kind, text, &subject, table, 2);
+            judge(random, totals, kind, text, &subject, table, &[2, 2]);
+        }
+    }
+}
+
+fn compare_null_pointers(totals: &mut Totals) {
+    let room_a = b"a001\na100010202\na100010202\nff\n";
+    let (text, length) = (room_a.as_ptr(), room_a.len());
+    let bytes = reference::text::read(room_a).unwrap().to_bytes();
+    let mut table = [7; 16];
+    let mut plan = [7; 2];
+    let mut room = [7; ROOM_BYTES];
+    let mut numbers = [7; 5];
+    let (no_text, no_past) = (null::<u8>(), null::<u16>());
+    let (no_numbers, no_plan, no_bytes) = (null_mut::<u64>(), null_mut::<u16>(), null_mut::<u8>());
+    let to = numbers.as_mut_ptr();
+    let lent = table.as_mut_ptr();
+    let masks = plan.as_mut_ptr();
+    let read = room.as_mut_ptr();
+    let replies = unsafe {
+        use exported::*;
+        [
+            ("check", 2, stoerwjok_check(no_text, 0, to, 5)),
+            ("check", 0, stoerwjok_check(text, length, no_numbers, 0)),
+            (
+                "plan",
+                2,
+                stoerwjok_plan(no_text, 0, no_numbers, 0, no_plan, 0, no_numbers, 0),
+            ),
+            (
+                "plan",
+                10,
+                stoerwjok_plan(text, length, no_numbers, 0, masks, 2, to, 5),
+            ),
+            (
+                "plan",
+                11,
+                stoerwjok_plan(text, length, lent, 16, no_plan, 0, to, 5),
+            ),
+            (
+                "plan",
+                0,
+                stoerwjok_plan(text, length, lent, 16, masks, 2, no_numbers, 0),
+            ),
+            (
+                "judge",
+                2,
+                stoerwjok_judge(no_text, 0, no_numbers, 0, no_past, 0, no_numbers, 0),
+            ),
+            (
+                "judge",
+                10,
+                stoerwjok_judge(text, length, no_numbers, 0, no_past, 0, to, 5),
+            ),
+            (
+                "judge",
+                0,
+                stoerwjok_judge(text, length, lent, 16, no_past, 0, no_numbers, 0),
+            ),
+            ("read", 2, stoerwjok_read(no_text, 0, no_bytes, 0, to, 5)),
+            (
+                "read",
+                11,
+                stoerwjok_read(text, length, no_bytes, 0, no_numbers, 0),
+            ),
+            (
+                "read",
+                0,
+                stoerwjok_read(text, length, read, ROOM_BYTES, no_numbers, 0),
+            ),
+            ("write", 11, stoerwjok_write(no_text, 0, no_bytes, 0, to, 5)),
+            (
+                "write",
+                11,
+                stoerwjok_write(bytes.as_ptr(), ROOM_BYTES, no_bytes, 0, no_numbers, 0),
+            ),
+        ]
+    };
+    for (call, expected, given) in replies {
+        let difference = differs(given == expected, &given);
+        totals.add("null pointers", call, &Reply::of(expected), difference);
+    }
+    let buffers = (plan, table, numbers);
+    let same = buffers == ([2, 1], [0; 16], [11, 0, 228, 0, 0]) && room == bytes;
+    if !same {
+        totals
+            .differences
+            .push(format!("null pointers: {buffers:?}"));
+    }
+}
+
+fn check(random: &mut Random, totals: &mut Totals, kind: &str, text: &[u8], subject: &Subject) {
+    let expected = subject.check();
+    let reply = replied(random, &expected, |way| match way {
+        Way::Wrapper => stoerwjok::check(text),
+        Way::Exported(numbers) => returned(lending::check(text, numbers)),
+    });
+    let call = || format!("check \"{}\"", text.escape_ascii());
+    let difference = difference(call, &expected, reply, &[]);
+    totals.add(kind, "check", &expected, difference);
+}
+
+fn read(random: &mut Random, totals: &mut Totals, kind: &str, text: &[u8]) {
+    let length = match random.one_in(6) {
+        true => random.pick(&[0, 1, 227, 229, 256]),
+        false => ROOM_BYTES,
+    };
+    let (expected, written) = reference::read(text, length);
+    let mut room = Lent::new(length, || random.byte());
+    let to = room.lend();
+    let reply = replied(random, &expected, |way| match way {
+        Way::Wrapper if length == ROOM_BYTES => {
+            let read = stoerwjok::read(text);
+            to.copy_from_slice(&read.unwrap_or_default().to_bytes());
+            read.err().unwrap_or_default()
+        }
+        Way::Wrapper => five(|numbers| lending::read(text, to, numbers)),
+        Way::Exported(numbers) => returned(lending::read(text, to, numbers)),
+    });
+    let call = || format!("read \"{}\" to {length}", text.escape_ascii());
+    let buffers = [("room", room.holds(&written))];
+    let difference = difference(call, &expected, reply, &buffers);
+    totals.add(kind, "read", &expected, difference);
+}
+
+fn write(random: &mut Random, totals: &mut Totals, kind: &str, bytes: &[u8], buffer: usize) {
+    let (expected, written) = reference::write(bytes, buffer);
+    let mut text = Lent::new(buffer, || random.byte());
+    let to = text.lend();
+    let room = <&[u8; ROOM_BYTES]>::try_from(bytes).map(Room::from_bytes);
+    let reply = replied(random, &expected, |way| match (way, room) {
+        (Way::Wrapper, Ok(room)) => stoerwjok::write(&room, to),
+        (Way::Wrapper, Err(_)) => five(|numbers| lending::write(bytes, to, numbers)),
+        (Way::Exported(numbers), _) => returned(lending::write(bytes, to, numbers)),
+    });
+    let call = || format!("write {bytes:?} to {buffer}");
+    let buffers = [("text", text.holds(&written))];
+    let difference = difference(call, &expected, reply, &buffers);
+    totals.add(kind, "write", &expected, difference);
+}
+
+fn plan(
+    random: &mut Random,
+    totals: &mut Totals,
+    kind: &str,
+    text: &[u8],
+    subject: &Subject,
+    table_length: usize,
+    buffer: usize,
+) {
+    let Some((expected, written)) = subject.plan(table_length, buffer) else {
+        totals.not_decided += 1;
+        return;
+    };
+    let mut table = lent_table(random, table_length);
+    let mut plan = Lent::new(buffer, || random.mask());
+    let (lent, to) = (table.lend(), plan.lend());
+    let reply = replied(random, &expected, |way| match way {
+        Way::Wrapper => stoerwjok::plan(text, lent, to),
+        Way::Exported(numbers) => returned(lending::plan(text, lent, to, numbers)),
+    });
+    let call = || {
+        let text = text.escape_ascii();
+        format!("plan \"{text}\" with {table_length}, {buffer}")
+    };
+    let buffers = [
+        ("table", table_holds(&table, expected.code)),
+        ("plan", plan.holds(written)),
+    ];
+    let difference = difference(call, &expected, reply, &buffers);
+    totals.add(kind, "plan", &expected, difference);
+}
+
+fn judge(
+    random: &mut Random,
+    totals: &mut Totals,
+    kind: &str,
+    text: &[u8],
+    subject: &Subject,
+    table_length: usize,
+    past: &[u16],
+) {
+    let Some(expected) = subject.judge(table_length, past) else {
+        totals.not_decided += 1;
+        return;
+    };
+    totals.inputs[2] += 1;
+    totals.longest_past = totals.longest_past.max(past.len());
+    let mut table = lent_table(random, table_length);
+    let mut masks = Lent::with(past, || random.mask());
+    let (lent, from) = (table.lend(), masks.lend());
+    let reply = replied(random, &expected, |way| match way {
+        Way::Wrapper => stoerwjok::judge(text, lent, from),
+        Way::Exported(numbers) => returned(lending::judge(text, lent, from, numbers)),
+    });
+    let call = || {
+        let text = text.escape_ascii();
+        format!("judge \"{text}\" with {table_length}, {past:?}")
+    };
+    let buffers = [
+        ("table", table_holds(&table, expected.code)),
+        ("past", masks.holds(&[])),
+    ];
+    let difference = difference(call, &expected, reply, &buffers);
+    totals.add(kind, "judge", &expected, difference);
+}
