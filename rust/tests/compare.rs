@@ -9,7 +9,8 @@ mod reference;
 
 use generate::{Random, Sizes};
 use reference::{Memory, Reply, Subject, LONGEST_TABLE, ROOM_BYTES};
-use std::collections::BTreeMap;
+use std::collections::{BTreeMap, HashSet};
+use std::hash::{DefaultHasher, Hash, Hasher};
 use std::process::ExitCode;
 use std::ptr::{null, null_mut};
 use std::time::Instant;
@@ -49,12 +50,30 @@ fn main() -> ExitCode {
 struct Totals {
     kinds: BTreeMap<String, [u64; 13]>,
     calls: BTreeMap<&'static str, [u64; 13]>,
-    inputs: [u64; 3],
+    texts: Inputs,
+    rooms: Inputs,
+    pasts: Inputs,
     not_decided: u64,
     greatest_count: u64,
     longest_plan: u64,
     longest_past: usize,
     differences: Vec<String>,
+}
+
+/// How many inputs, and the hashes of different ones.
+#[derive(Default)]
+struct Inputs {
+    number: u64,
+    different: HashSet<u64>,
+}
+
+impl Inputs {
+    fn add(&mut self, input: impl Hash) {
+        self.number += 1;
+        let mut hasher = DefaultHasher::new();
+        input.hash(&mut hasher);
+        self.different.insert(hasher.finish());
+    }
 }
 
 impl Totals {
@@ -81,8 +100,18 @@ impl Totals {
             all.iter_mut().zip(codes).for_each(|(sum, n)| *sum += n);
         }
         print_codes("all", &all);
-        let [texts, rooms, pasts] = self.inputs;
-        println!("\n{texts} texts, {rooms} rooms, {pasts} pasts");
+        println!();
+        for (name, of) in [
+            ("texts", &self.texts),
+            ("rooms", &self.rooms),
+            ("pasts", &self.pasts),
+        ] {
+            println!(
+                "{name}: {}, different ones: {}",
+                of.number,
+                of.different.len()
+            );
+        }
         println!("greatest count {}", self.greatest_count);
         println!(
             "longest plan {}, longest past {}",
@@ -240,7 +269,10 @@ fn difference(
 }
 
 fn compare_text(random: &mut Random, totals: &mut Totals) {
-    let damage = random.pick(&generate::DAMAGES);
+    let damage = match random.one_in(1000) {
+        true => "empty",
+        false => random.pick(&generate::DAMAGES),
+    };
     let mut room = any_room(random);
     if random.one_in(4) {
         generate::spoil(random, &mut room);
@@ -252,7 +284,7 @@ fn compare_text(random: &mut Random, totals: &mut Totals) {
     let text = generate::damaged(random, &whole, damage);
     let subject = Subject::new(&text, MOST_STEPS);
     let kind = format!("text, {damage}");
-    totals.inputs[0] += 1;
+    totals.texts.add(&text);
     check(random, totals, &kind, &text, &subject);
     read(random, totals, &kind, &text);
     let table = table_length(random, &subject);
@@ -284,7 +316,7 @@ fn compare_room(random: &mut Random, totals: &mut Totals) {
         3 => random.below(4),
         _ => text.len(),
     };
-    totals.inputs[1] += 1;
+    totals.rooms.add(&bytes);
     write(random, totals, kind, &bytes, buffer);
     check(random, totals, kind, &text, &Subject::new(&text, 0));
 }
@@ -295,7 +327,7 @@ fn compare_plans_and_pasts(random: &mut Random, totals: &mut Totals) {
         false => reference::text::render(&any_room(random)),
     };
     let subject = Subject::new(&text, MOST_STEPS);
-    totals.inputs[1] += 1;
+    totals.rooms.add(subject.room.to_bytes());
     let exact = 4 * subject.least_count() + random.below(4);
     let slots = subject.masks().len();
     let longer = slots + 1 + random.below(20);
@@ -547,7 +579,7 @@ fn judge(
         totals.not_decided += 1;
         return;
     };
-    totals.inputs[2] += 1;
+    totals.pasts.add((text, past));
     totals.longest_past = totals.longest_past.max(past.len());
     let mut table = lent_table(random, table_length);
     let mut masks = Lent::with(past, || random.mask());

@@ -1,5 +1,5 @@
 -- Laws of buffers: what the stores of the functions make of one.
---   put-more                       one part after another
+--   put-none, put-more             nothing put, and one part after another
 --   put-two                        the two digits of a byte
 --   PartTo, part-start, part-turn, part-end
 --                                  a part put byte by byte: the loop of `put`
@@ -26,7 +26,7 @@ module _ (buffer : List ℕ) (at : ℕ) where
   put-paste : (part : List ℕ) → put buffer at part ≡ paste buffer at part (length part)
   put-paste part = ap (λ (p : List ℕ). take at buffer ++ p ++ drop (at + length part) buffer) (sym (take-length part))
 
-  put-none : buffer ≡ put buffer at []
+  pub put-none : buffer ≡ put buffer at []
   put-none = paste-zero buffer at []
 
   pub put-more : (p q : List ℕ) → at + length p ≤ length buffer → put (put buffer at p) (at + length p) q ≡ put buffer at (p ++ q)

@@ -1,7 +1,8 @@
 // The room's check: the refusals 3 to 8, and R and H of a room within the limits.
 ghost use Prim.Native.Nat.{_≤_, _<_};
 ghost use Rattle.paper.specs.Room.{GoodJob, EachJobFits, GreatestFirst, Clock, Limits};
-ghost use Rattle.paper.specs.Reply.{CheckReply};
+ghost use mathlib.Core.Path.{_≡_};
+ghost use Rattle.paper.specs.Reply.{numbers, CheckReply};
 ghost use Rattle.room.specs.Checks.{Verdict, SectionVerdict, LinkVerdict, JobSearch, SectionSearch, LinkSearch, LeastMultiple, Within};
 use paper::Job;
 use paper::Link;
@@ -275,4 +276,30 @@ fn greatest_first(room: Room) -> u8
         i += 1;
     }
     greatest
+}
+
+// The code of a reply.
+pub fn code(reply: Reply) -> u8
+    ensures { λ n. ⌜ n ≡ numbers reply .code ⌝ }
+{
+    match reply {
+        Reply::Good {
+            count: _,
+            place: _,
+            prefix: _,
+            cycle: _,
+        } => 0,
+        Reply::None { count: _ } => 1,
+        Reply::Text { place: _ } => 2,
+        Reply::Engines => 3,
+        Reply::Jobs => 4,
+        Reply::Job { place: _ } => 5,
+        Reply::Section { place: _ } => 6,
+        Reply::Link { place: _ } => 7,
+        Reply::Long { place: _ } => 8,
+        Reply::Table => 9,
+        Reply::Room => 10,
+        Reply::Short { place: _ } => 11,
+        Reply::Out { count: _, place: _ } => 12,
+    }
 }

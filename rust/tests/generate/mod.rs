@@ -344,7 +344,7 @@ pub fn bytes(random: &mut Random, room: &Room) -> Vec<u8> {
     bytes
 }
 
-pub const DAMAGES: [&str; 18] = [
+pub const DAMAGES: [&str; 17] = [
     "whole",
     "byte changed",
     "digit changed",
@@ -358,7 +358,6 @@ pub const DAMAGES: [&str; 18] = [
     "cut short",
     "bytes after ff",
     "too many of a kind",
-    "empty",
     "random bytes",
     "longer than 648",
     "empty line",

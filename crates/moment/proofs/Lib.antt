@@ -1,0 +1,5 @@
+pub mod Shapes
+pub mod Moments
+pub mod Steps
+pub mod Laws
+pub mod Masks

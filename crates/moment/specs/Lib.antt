@@ -1,0 +1,4 @@
+pub mod Shapes
+pub mod Moments
+pub mod Laws
+pub mod Masks

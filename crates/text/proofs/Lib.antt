@@ -1,0 +1,3 @@
+pub mod Reader
+pub mod Writer
+pub mod RoundTrips
