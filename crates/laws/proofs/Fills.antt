@@ -1,7 +1,7 @@
 -- An array that is filled from the front, one store a turn.
---   filled       what stands below i goes by f; a store of f i at i makes it so below i + 1
---   filled-by    the same of anything that is said of a place and what stands there
---   rest         what stands from i on is d; a store at i leaves it so from i + 1 on
+--   filled-by   P holds of each place below i and what stands there; a store at i of what P asks there makes it so below i + 1
+--   filled      the same where P says what stands there
+--   rest        what stands from i on is d; a store at i leaves it so from i + 1 on
 use Prim.Native.Nat.{ℕ, _+_, _≤_, _<_}
 use native.Mathlib.Omega.{arith}
 use mathlib.Core.Path.{_≡_, sym, subst, _∙_}

@@ -16,3 +16,4 @@ pub mod Choices
 pub mod Probes
 pub mod Marks
 pub mod Fills
+pub mod Tallies

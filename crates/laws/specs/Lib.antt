@@ -15,3 +15,4 @@ pub mod Words
 pub mod Choices
 pub mod Probes
 pub mod Marks
+pub mod Tallies

@@ -1,8 +1,8 @@
 -- A mask that tells of which numbers something holds.
---   Marks P x    bit i of x is set exactly if P i
---   Below P n    a number below n of which P holds
---   Among a P    a number of the mask a of which P holds
---   Sieve        r marks the numbers of a, those of x aside, of which P holds
+--   Marks P x       bit i of x is set exactly if P i
+--   Below P n       a number below n of which P holds
+--   Among a P       a number of the mask a of which P holds
+--   Sieve a P x r   r marks numbers of a of which P holds: all of them but those of x, which are still to come
 use Prim.Native.Nat.{ℕ, _<_}
 use mathlib.Core.Path.{_≡_}
 use Rattle.laws.specs.Bits.{bit}
