@@ -43,3 +43,18 @@ pub fn all() -> Vec<Named> {
         Named { name: "14 jobs, largest", room: room(7, &[(1, 4, 6, 12), (4, 5, 9, 16), (4, 8, 9, 32), (2, 4, 7, 12), (1, 5, 9, 16), (2, 3, 5, 16), (5, 2, 2, 16), (3, 7, 11, 32), (3, 2, 3, 8), (0, 4, 8, 48), (2, 2, 6, 12), (2, 1, 3, 16), (1, 2, 2, 8), (4, 5, 9, 32)]) },
     ]
 }
+
+/// A room as the paper's text.
+pub fn text(room: &Room) -> Vec<u8> {
+    let mut frames = vec![vec![0xa0, room.engines]];
+    frames.extend(room.jobs.iter().map(|j| vec![0xa1, j.first, j.load, j.deadline, j.period]));
+    frames.extend(room.sections.iter().map(|s| vec![0xa2, s.job, s.block, s.first, s.after]));
+    frames.extend(room.links.iter().map(|k| vec![0xa3, k.sender, k.receiver]));
+    let mut text = String::new();
+    for frame in frames {
+        text.extend(frame.iter().map(|byte| format!("{byte:02x}")));
+        text.push('\n');
+    }
+    text.push_str("ff\n");
+    text.into_bytes()
+}

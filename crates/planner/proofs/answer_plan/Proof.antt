@@ -5,7 +5,6 @@ use native.Mathlib.Omega.{arith}
 use mathlib.Core.Path.{sym, _∙_, subst}
 use lib.Dec.{T}
 use Rattle.members.specs.Marks.{lives}
-use Rattle.follow.specs.Turns.{Leading}
 use Rattle.follow.proofs.Turns.{same-leading}
 use Rattle.follow.proofs.Tables.{table-leading}
 use Rattle.planner.proofs.Calls.{none-answer, short-answer, good-answer}

@@ -4,7 +4,6 @@ use borrow.Author.Needs.{needs}
 use native.Mathlib.Omega.{arith}
 use Prim.Native.Nat.{ℕ}
 use mathlib.Core.Path.{sym, ap, _∙_, subst}
-use mathlib.Core.List.{List}
 use lib.ListN.{replicate}
 use Rattle.paper.specs.Room.{Limits}
 use Rattle.paper.specs.Reply.{JudgeReply}
