@@ -1,4 +1,5 @@
 -- From the parts of a call to what it promises.
+--   bad-code                 a reading that is not GOOD is TEXT
 --   broken-text, good-text   the reply to a text, by the code of its reading
 --   place-two, place-three   a buffer of five numbers has its places after stores
 --   stored, stored-five      five numbers stored at the start of a buffer
@@ -17,8 +18,7 @@ use Rattle.export.specs.Calls.{five, Tells, OfText, broken, good}
 
 -- ---- Texts
 
--- the reader gives only 0 and 2
-bad-code : (text : List ℕ) (room : Room) (r : Reply) → ReadReply text r room → numbers r .code ≢ 0 → numbers r .code ≡ 2
+pub bad-code : (text : List ℕ) (room : Room) (r : Reply) → ReadReply text r room → numbers r .code ≢ 0 → numbers r .code ≡ 2
 bad-code text room (say.Good n i a c) x e = absurd (e refl)
 bad-code text room (say.None n) x e = absurd x
 bad-code text room (say.Text i) x e = refl

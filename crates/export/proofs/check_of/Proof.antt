@@ -17,7 +17,10 @@ check-requires : tie.Need-check-requires
 check-requires c κs = search needs
 
 returns-2 : tie.Need-returns-2
-returns-2 c = let e = c .before in let k = e .before in good-text (k .before .read .result .reply) _ (k .before .read .ensures) (k .code .ensures) (e .if1 .left) _ (c .check .ensures)
+returns-2 c =
+    let e = c .before in
+    let k = e .before in
+    good-text (k .before .read .result .reply) _ (k .before .read .ensures) (k .code .ensures) (e .if1 .left) _ (c .check .ensures)
 
 pub check-of-spec : {M : Type 1} → statement M
 check-of-spec = tie.close (tie.spec read-requires code-requires returns check-requires returns-2)

@@ -21,7 +21,10 @@ same-length : tie.Need-same-length
 same-length c = search needs
 
 returns-2 : tie.Need-returns-2
-returns-2 c = let e = c .before .before .before .before in let k = e .before in good-text (k .before .read .result .reply) _ (k .before .read .ensures) (k .code .ensures) (e .if1 .left) _ (c .before .before .judge .ensures)
+returns-2 c =
+    let e = c .before .before .before .before in
+    let k = e .before in
+    good-text (k .before .read .result .reply) _ (k .before .read .ensures) (k .code .ensures) (e .if1 .left) _ (c .before .before .judge .ensures)
 
 pub judge-of-spec : {M : Type 1} → statement M
 judge-of-spec =

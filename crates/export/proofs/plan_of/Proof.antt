@@ -24,7 +24,10 @@ same-length-2 : tie.Need-same-length-2
 same-length-2 c = search needs
 
 returns-2 : tie.Need-returns-2
-returns-2 c = let e = c .before .before .before .before .before .before .before in let k = e .before in good-text (k .before .read .result .reply) _ (k .before .read .ensures) (k .code .ensures) (e .if1 .left) _ (c .before .before .before .before .plan .ensures)
+returns-2 c =
+    let e = c .before .before .before .before .before .before .before in
+    let k = e .before in
+    good-text (k .before .read .result .reply) _ (k .before .read .ensures) (k .code .ensures) (e .if1 .left) _ (c .before .before .before .before .plan .ensures)
 
 pub plan-of-spec : {M : Type 1} → statement M
 plan-of-spec =
