@@ -132,6 +132,7 @@ fn answer_of(reply: Reply) -> Answer {
     }
 }
 
+// The lesser of two numbers.
 fn least(a: usize, b: usize) -> usize
     ensures { λ r. ⌜ (r ≤ a) × (r ≤ b) ⌝ }
 {

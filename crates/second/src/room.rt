@@ -175,6 +175,7 @@ pub struct Clock {
     pub last: u16,
 }
 
+// The time positions of a room.
 pub fn clock_of(room: Room) -> Clock {
     let back = greatest_first(room) as u16;
     let h = least_multiple(room, room.jobs as usize);

@@ -1,4 +1,4 @@
-/* Build: rt staticlib export && cc -Iinclude examples/c/plan.c target/staticlib/libexport.a -o target/plan-c
+/* Build: rt staticlib export && cc -Iinclude include/plan.c target/staticlib/libexport.a -o target/plan-c
    Run: target/plan-c ROOM_TEXT_FILE */
 
 #include <stdio.h>
