@@ -4,8 +4,8 @@ ghost use Prim.Native.Nat.{ℕ, _+_, _*_, _≤_, _<_};
 ghost use mathlib.Core.Path.{_≡_};
 ghost use lib.ListN.{length, getD};
 ghost use Rattle.paper.specs.Room.{noJob, noSection, noLink};
-ghost use Rattle.paper.specs.Reply.{numbers};
-ghost use Rattle.export.specs.Calls.{five, Tells, Told, CheckOfText, PlanOfText, JudgeOfText};
+ghost use Rattle.answer.specs.Calls.{CheckOfText, PlanOfText, JudgeOfText};
+ghost use Rattle.export.specs.Calls.{Tells, Told};
 ghost use Rattle.export.specs.Bytes.{size, ByteAt, Holds, Laid, jobAt, sectionAt, linkAt, ReadOfText, WriteOfBytes};
 use paper::Job;
 use paper::Link;
@@ -18,7 +18,7 @@ use paper::Section;
 pub extern "C" fn stoerwjok_check(text: &[u8], numbers: &mut [u64]) -> u64
     ensures { λ n. ⌜ Told (CheckOfText (now (text .entry))) (now (numbers .entry)) n (now (numbers .exit)) ⌝ }
 {
-    let reply = check_of(text);
+    let reply = answer::check_of(text);
     tell(reply, numbers)
 }
 
@@ -33,7 +33,7 @@ pub extern "C" fn stoerwjok_plan(
     ensures { λ n. ⌜ Told (PlanOfText (now (text .entry)) (now (table .entry)) (now (plan .entry)) (now (table .exit)) (now (plan .exit)))
         (now (numbers .entry)) n (now (numbers .exit)) ⌝ }
 {
-    let reply = plan_of(text, table, plan);
+    let reply = answer::plan_of(text, table, plan);
     tell(reply, numbers)
 }
 
@@ -48,7 +48,7 @@ pub extern "C" fn stoerwjok_judge(
     ensures { λ n. ⌜ Told (JudgeOfText (now (text .entry)) (now (past .entry)) (now (table .entry)) (now (table .exit)))
         (now (numbers .entry)) n (now (numbers .exit)) ⌝ }
 {
-    let reply = judge_of(text, table, past);
+    let reply = answer::judge_of(text, table, past);
     tell(reply, numbers)
 }
 
@@ -68,42 +68,6 @@ pub extern "C" fn stoerwjok_write(room: &[u8], text: &mut [u8], numbers: &mut [u
 {
     let reply = write_of(room, text);
     tell(reply, numbers)
-}
-
-// The reply to checking the room of a text.
-fn check_of(text: &[u8]) -> Reply
-    ensures { λ r. ⌜ CheckOfText (now (text .entry)) r ⌝ }
-{
-    let reading = text::read(text);
-    let reply = reading.reply;
-    if room::code(reply) != 0 {
-        return reply;
-    }
-    planner::check(reading.room)
-}
-
-// The reply to planning the room of a text.
-fn plan_of(text: &[u8], table: &mut [u64], plan: &mut [u16]) -> Reply
-    ensures { λ r. ⌜ PlanOfText (now (text .entry)) (now (table .entry)) (now (plan .entry)) (now (table .exit)) (now (plan .exit)) r ⌝ }
-{
-    let reading = text::read(text);
-    let reply = reading.reply;
-    if room::code(reply) != 0 {
-        return reply;
-    }
-    planner::plan(reading.room, table, plan)
-}
-
-// The reply to judging a past of the room of a text.
-fn judge_of(text: &[u8], table: &mut [u64], past: &[u16]) -> Reply
-    ensures { λ r. ⌜ JudgeOfText (now (text .entry)) (now (past .entry)) (now (table .entry)) (now (table .exit)) r ⌝ }
-{
-    let reading = text::read(text);
-    let reply = reading.reply;
-    if room::code(reply) != 0 {
-        return reply;
-    }
-    planner::judge(reading.room, table, past)
 }
 
 // Reads a text: its room in the first 228 bytes, all zeros on TEXT.
@@ -263,7 +227,7 @@ fn links_of(bytes: &[u8]) -> [Link; 16]
 fn tell(reply: Reply, numbers: &mut [u64]) -> u64
     ensures { λ n. ⌜ Tells reply (now (numbers .entry)) n (now (numbers .exit)) ⌝ }
 {
-    let five = five_of(reply);
+    let five = answer::five_of(reply);
     let code = five[0];
     if numbers.len() < 5 {
         return code;
@@ -274,30 +238,4 @@ fn tell(reply: Reply, numbers: &mut [u64]) -> u64
     numbers[3] = five[3];
     numbers[4] = five[4];
     code
-}
-
-// The numbers of a reply: code, count, place, prefix, cycle.
-fn five_of(reply: Reply) -> [u64; 5]
-    ensures { λ n. ⌜ n ≡ five (numbers reply) ⌝ }
-{
-    match reply {
-        Reply::Good {
-            count,
-            place,
-            prefix,
-            cycle,
-        } => [0, count as u64, place as u64, prefix as u64, cycle as u64],
-        Reply::None { count } => [1, count as u64, 0, 0, 0],
-        Reply::Text { place } => [2, 0, place as u64, 0, 0],
-        Reply::Engines => [3, 0, 0, 0, 0],
-        Reply::Jobs => [4, 0, 0, 0, 0],
-        Reply::Job { place } => [5, 0, place as u64, 0, 0],
-        Reply::Section { place } => [6, 0, place as u64, 0, 0],
-        Reply::Link { place } => [7, 0, place as u64, 0, 0],
-        Reply::Long { place } => [8, 0, place as u64, 0, 0],
-        Reply::Table => [9, 0, 0, 0, 0],
-        Reply::Room => [10, 0, 0, 0, 0],
-        Reply::Short { place } => [11, 0, place as u64, 0, 0],
-        Reply::Out { count, place } => [12, count as u64, place as u64, 0, 0],
-    }
 }

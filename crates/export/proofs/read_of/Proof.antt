@@ -2,7 +2,7 @@
 use mathlib.Core.Path.{refl, sym, _∙_}
 use borrow.Author.Needs.{needs}
 use Rattle.export.specs.Bytes.{laid, unread, narrow}
-use Rattle.export.proofs.Calls.{bad-code}
+use Rattle.answer.proofs.Calls.{bad-code}
 use Rattle.export.proofs.read_of.Statement.{statement}
 use Rattle.export.proofs.read_of.Tie as tie
 

@@ -1,11 +1,11 @@
--- `export::five_of` meets its contract: in each arm the reply is known, and with it its numbers.
+-- `answer::five_of` meets its contract: in each arm the reply is known, and with it its numbers.
 use mathlib.Core.Path.{_≡_, sym, ap}
 use borrow.Author.Needs.{needs}
 use Rattle.paper.specs.declared.Reply.{Reply}
 use Rattle.paper.specs.Reply.{numbers}
-use Rattle.export.specs.Calls.{five}
-use Rattle.export.proofs.five_of.Statement.{statement}
-use Rattle.export.proofs.five_of.Tie as tie
+use Rattle.answer.specs.Calls.{five}
+use Rattle.answer.proofs.five_of.Statement.{statement}
+use Rattle.answer.proofs.five_of.Tie as tie
 
 -- the numbers of the reply that is known
 told-as : {r s : Reply} → r ≡ s → five (numbers s) ≡ five (numbers r)

@@ -1,8 +1,8 @@
--- `export::check_of` meets its contract: the reading's TEXT, or the reply of the check.
+-- `answer::check_of` meets its contract: the reading's TEXT, or the reply of the check.
 use borrow.Author.Needs.{needs}
-use Rattle.export.proofs.Calls.{broken-text, good-text}
-use Rattle.export.proofs.check_of.Statement.{statement}
-use Rattle.export.proofs.check_of.Tie as tie
+use Rattle.answer.proofs.Calls.{broken-text, good-text}
+use Rattle.answer.proofs.check_of.Statement.{statement}
+use Rattle.answer.proofs.check_of.Tie as tie
 
 read-requires : tie.Need-read-requires
 read-requires c κs = search needs

@@ -1,9 +1,9 @@
--- `export::plan_of` meets its contract: the reading's TEXT with the memory as found, or the planner's reply.
+-- `answer::plan_of` meets its contract: the reading's TEXT with the memory as found, or the planner's reply.
 use mathlib.Core.Path.{refl}
 use borrow.Author.Needs.{needs}
-use Rattle.export.proofs.Calls.{broken-text, good-text}
-use Rattle.export.proofs.plan_of.Statement.{statement}
-use Rattle.export.proofs.plan_of.Tie as tie
+use Rattle.answer.proofs.Calls.{broken-text, good-text}
+use Rattle.answer.proofs.plan_of.Statement.{statement}
+use Rattle.answer.proofs.plan_of.Tie as tie
 
 read-requires : tie.Need-read-requires
 read-requires c κs = search needs

@@ -1,9 +1,9 @@
--- `export::judge_of` meets its contract: the reading's TEXT with the table as found, or the planner's reply.
+-- `answer::judge_of` meets its contract: the reading's TEXT with the table as found, or the planner's reply.
 use mathlib.Core.Path.{refl}
 use borrow.Author.Needs.{needs}
-use Rattle.export.proofs.Calls.{broken-text, good-text}
-use Rattle.export.proofs.judge_of.Statement.{statement}
-use Rattle.export.proofs.judge_of.Tie as tie
+use Rattle.answer.proofs.Calls.{broken-text, good-text}
+use Rattle.answer.proofs.judge_of.Statement.{statement}
+use Rattle.answer.proofs.judge_of.Tie as tie
 
 read-requires : tie.Need-read-requires
 read-requires c κs = search needs
