@@ -91,6 +91,14 @@ fn judge_in(room: Room, table: &mut [u64], past: &[u16]) -> Reply
     }
 }
 
+// Every exit after TABLE: the reply, and the lent table all zeros.
+fn leave(lent: &mut [u64], reply: Reply) -> Reply
+    ensures { λ r. ⌜ (r ≡ reply) × (now (lent .exit) ≡ replicate (length (now (lent .entry))) 0) ⌝ }
+{
+    table::clear(lent);
+    reply
+}
+
 // Check a room.
 pub fn check(room: Room) -> Reply
     ensures { λ r. ⌜ CheckReply room r ⌝ }
@@ -111,8 +119,7 @@ pub fn plan(room: Room, table: &mut [u64], plan: &mut [u16]) -> Reply
     }
     table::clear(table);
     let reply = plan_in(room, table, plan);
-    table::clear(table);
-    reply
+    leave(table, reply)
 }
 
 // Judge a recorded past: whether it can go on without end, or where it was lost.
@@ -128,6 +135,5 @@ pub fn judge(room: Room, table: &mut [u64], past: &[u16]) -> Reply
     }
     table::clear(table);
     let reply = judge_in(room, table, past);
-    table::clear(table);
-    reply
+    leave(table, reply)
 }

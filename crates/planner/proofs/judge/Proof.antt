@@ -1,9 +1,9 @@
 -- `planner::judge` meets its contract: the check's refusal, a table that is too long, or the answer worked out in the cleared table, which is
--- cleared again.
+-- left all zeros.
 use borrow.Author.Needs.{needs}
 use native.Mathlib.Omega.{arith}
 use Prim.Native.Nat.{ℕ}
-use mathlib.Core.Path.{sym, ap, _∙_, subst}
+use mathlib.Core.Path.{sym, ap, _∙_, transport}
 use lib.ListN.{replicate}
 use Rattle.paper.specs.Room.{Limits}
 use Rattle.paper.specs.Reply.{JudgeReply}
@@ -46,8 +46,8 @@ judge-in-requires c κs =
     let e = k .clear .kept .0 in
     (limits (entry k .before), omega (arith, e, entry k .if2 .left), k .clear .ensures ∙ ap (λ (n : ℕ). replicate n 0) (sym e))
 
-clear-requires-2 : tie.Need-clear-requires-2
-clear-requires-2 c κs = search needs
+leave-requires : tie.Need-leave-requires
+leave-requires c κs = search needs
 
 same-length : tie.Need-same-length
 same-length c = search needs
@@ -58,8 +58,11 @@ returns-3 c =
     let k = cleared i in
     let a = start (entry k .before .before) .args in
     let r = judge-length _ _ _ (k .clear .kept .0) _ (i .judge-in .result) (i .judge-in .ensures) in
-    let z = c .before .before .clear2 .ensures ∙ ap (λ (n : ℕ). replicate n 0) (i .judge-in .kept .1 .0 ∙ k .clear .kept .0) in
-    subst (JudgeReply (a .room) (a .past .now) (a .table .now) (i .judge-in .result)) (sym z) (answered-judge _ _ _ (i .judge-in .result) r)
+    let l = c .before .before .leave .ensures in
+    let z = l .1 ∙ ap (λ (n : ℕ). replicate n 0) (i .judge-in .kept .1 .0 ∙ k .clear .kept .0) in
+    transport
+    (λ k. JudgeReply (a .room) (a .past .now) (a .table .now) (sym (l .0) k) (sym z k))
+    (answered-judge _ _ _ (i .judge-in .result) r)
 
 pub judge-spec : {M : Type 1} → statement M
-judge-spec = tie.close (tie.spec check-requires code-requires returns returns-2 clear-requires judge-in-requires clear-requires-2 same-length returns-3)
+judge-spec = tie.close (tie.spec check-requires code-requires returns returns-2 clear-requires judge-in-requires leave-requires same-length returns-3)

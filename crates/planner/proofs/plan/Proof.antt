@@ -1,10 +1,9 @@
 -- `planner::plan` meets its contract: the check's refusal, a table that is too long, or the answer worked out in the cleared table, which is
--- cleared again.
+-- left all zeros.
 use borrow.Author.Needs.{needs}
 use native.Mathlib.Omega.{arith}
 use Prim.Native.Nat.{ℕ}
-use mathlib.Core.Path.{sym, ap, _∙_, subst}
-use mathlib.Core.List.{List}
+use mathlib.Core.Path.{sym, ap, _∙_, transport}
 use lib.ListN.{replicate}
 use Rattle.paper.specs.Room.{Limits}
 use Rattle.paper.specs.Reply.{PlanReply}
@@ -47,8 +46,8 @@ plan-in-requires c κs =
     let e = k .clear .kept .0 in
     (limits (entry k .before), omega (arith, e, entry k .if2 .left), k .clear .ensures ∙ ap (λ (n : ℕ). replicate n 0) (sym e))
 
-clear-requires-2 : tie.Need-clear-requires-2
-clear-requires-2 c κs = search needs
+leave-requires : tie.Need-leave-requires
+leave-requires c κs = search needs
 
 same-length : tie.Need-same-length
 same-length c = search needs
@@ -62,9 +61,11 @@ returns-3 c =
     let k = cleared i in
     let a = start (entry k .before .before) .args in
     let r = plan-length _ _ _ (k .clear .kept .0) _ _ (i .plan-in .result) (i .plan-in .ensures) in
-    let z = c .before .before .clear2 .ensures ∙ ap (λ (n : ℕ). replicate n 0) (i .plan-in .kept .1 .0 ∙ k .clear .kept .0) in
-    subst (λ (t : List ℕ). PlanReply (a .room) (a .table .now) (a .plan .now) (i .plan-in .result) t (i .plan-in .last .1 .1 .0)) (sym z)
+    let l = c .before .before .leave .ensures in
+    let z = l .1 ∙ ap (λ (n : ℕ). replicate n 0) (i .plan-in .kept .1 .0 ∙ k .clear .kept .0) in
+    transport
+    (λ k. PlanReply (a .room) (a .table .now) (a .plan .now) (sym (l .0) k) (sym z k) (i .plan-in .last .1 .1 .0))
     (answered-plan _ _ _ _ (i .plan-in .result) r)
 
 pub plan-spec : {M : Type 1} → statement M
-plan-spec = tie.close (tie.spec check-requires code-requires returns returns-2 clear-requires plan-in-requires clear-requires-2 same-length same-length-2 returns-3)
+plan-spec = tie.close (tie.spec check-requires code-requires returns returns-2 clear-requires plan-in-requires leave-requires same-length same-length-2 returns-3)
