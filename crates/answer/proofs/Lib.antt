@@ -1,3 +1,4 @@
 pub mod Calls
 pub mod Lines
 pub mod Enough
+pub mod One
