@@ -19,6 +19,18 @@ impl Numbers {
     }
 }
 
+impl From<[u64; 5]> for Numbers {
+    fn from([code, count, place, prefix, cycle]: [u64; 5]) -> Self {
+        Numbers {
+            code,
+            count,
+            place,
+            prefix,
+            cycle,
+        }
+    }
+}
+
 /// The codes by their names, each with the paper's number.
 #[derive(Clone, Copy, Debug, PartialEq, Eq)]
 pub enum Code {
@@ -169,7 +181,7 @@ impl Room {
 }
 
 #[cfg(feature = "linked")]
-pub use calls::{check, judge, plan, read, write};
+pub use calls::{check, judge, numbers, plan, read, write};
 
 /// The exported functions as they are; `include/stoerwjok.h` says what each returns and needs.
 #[cfg(feature = "linked")]
@@ -224,23 +236,21 @@ pub mod exported {
     }
 }
 
+/// The exported functions on slices, with lent numbers of any length; each returns the code. Every call has slices of its own
+/// for memory, and the exported functions keep to their lengths.
 #[cfg(feature = "linked")]
-mod calls {
+pub mod lent {
     use super::exported::*;
-    use super::{Numbers, Room};
 
-    // Every call has slices of its own for memory, and the exported functions keep to their lengths.
-
-    /// Checks the room of a text: 2 to 8, or 0.
-    pub fn check(text: &[u8]) -> Numbers {
-        numbers(|numbers, length| unsafe {
-            stoerwjok_check(text.as_ptr(), text.len(), numbers, length)
-        })
+    /// Checks the room of a text.
+    pub fn check(text: &[u8], numbers: &mut [u64]) -> u64 {
+        let (to, length) = (numbers.as_mut_ptr(), numbers.len());
+        unsafe { stoerwjok_check(text.as_ptr(), text.len(), to, length) }
     }
 
-    /// Plans the room of a text. On 0 the plan buffer holds prefix then cycle.
-    pub fn plan(text: &[u8], table: &mut [u64], plan: &mut [u16]) -> Numbers {
-        numbers(|numbers, length| unsafe {
+    /// Plans the room of a text.
+    pub fn plan(text: &[u8], table: &mut [u64], plan: &mut [u16], numbers: &mut [u64]) -> u64 {
+        unsafe {
             stoerwjok_plan(
                 text.as_ptr(),
                 text.len(),
@@ -248,15 +258,15 @@ mod calls {
                 table.len(),
                 plan.as_mut_ptr(),
                 plan.len(),
-                numbers,
-                length,
+                numbers.as_mut_ptr(),
+                numbers.len(),
             )
-        })
+        }
     }
 
-    /// Judges a past, a row of masks from slot 0, in the room of a text: 0 if it is in the centre.
-    pub fn judge(text: &[u8], table: &mut [u64], past: &[u16]) -> Numbers {
-        numbers(|numbers, length| unsafe {
+    /// Judges a past in the room of a text.
+    pub fn judge(text: &[u8], table: &mut [u64], past: &[u16], numbers: &mut [u64]) -> u64 {
+        unsafe {
             stoerwjok_judge(
                 text.as_ptr(),
                 text.len(),
@@ -264,25 +274,64 @@ mod calls {
                 table.len(),
                 past.as_ptr(),
                 past.len(),
-                numbers,
-                length,
+                numbers.as_mut_ptr(),
+                numbers.len(),
             )
-        })
+        }
     }
 
-    /// Reads a room text: the room, or 2.
-    pub fn read(text: &[u8]) -> Result<Room, Numbers> {
-        let mut room = [0; Room::BYTES];
-        let reply = numbers(|numbers, length| unsafe {
+    /// Reads a room text into the bytes of a room.
+    pub fn read(text: &[u8], room: &mut [u8], numbers: &mut [u64]) -> u64 {
+        unsafe {
             stoerwjok_read(
                 text.as_ptr(),
                 text.len(),
                 room.as_mut_ptr(),
                 room.len(),
-                numbers,
-                length,
+                numbers.as_mut_ptr(),
+                numbers.len(),
             )
-        });
+        }
+    }
+
+    /// Writes the bytes of a room as its text.
+    pub fn write(room: &[u8], text: &mut [u8], numbers: &mut [u64]) -> u64 {
+        unsafe {
+            stoerwjok_write(
+                room.as_ptr(),
+                room.len(),
+                text.as_mut_ptr(),
+                text.len(),
+                numbers.as_mut_ptr(),
+                numbers.len(),
+            )
+        }
+    }
+}
+
+#[cfg(feature = "linked")]
+mod calls {
+    use super::{lent, Numbers, Room};
+
+    /// Checks the room of a text: 2 to 8, or 0.
+    pub fn check(text: &[u8]) -> Numbers {
+        numbers(|numbers| lent::check(text, numbers))
+    }
+
+    /// Plans the room of a text. On 0 the plan buffer holds prefix then cycle.
+    pub fn plan(text: &[u8], table: &mut [u64], plan: &mut [u16]) -> Numbers {
+        numbers(|numbers| lent::plan(text, table, plan, numbers))
+    }
+
+    /// Judges a past, a row of masks from slot 0, in the room of a text: 0 if it is in the centre.
+    pub fn judge(text: &[u8], table: &mut [u64], past: &[u16]) -> Numbers {
+        numbers(|numbers| lent::judge(text, table, past, numbers))
+    }
+
+    /// Reads a room text: the room, or 2.
+    pub fn read(text: &[u8]) -> Result<Room, Numbers> {
+        let mut room = [0; Room::BYTES];
+        let reply = numbers(|numbers| lent::read(text, &mut room, numbers));
         match reply.code {
             0 => Ok(Room::from_bytes(&room)),
             _ => Err(reply),
@@ -291,29 +340,13 @@ mod calls {
 
     /// Writes a room as its text. On 0 place is the number of bytes written.
     pub fn write(room: &Room, text: &mut [u8]) -> Numbers {
-        let room = room.to_bytes();
-        numbers(|numbers, length| unsafe {
-            stoerwjok_write(
-                room.as_ptr(),
-                room.len(),
-                text.as_mut_ptr(),
-                text.len(),
-                numbers,
-                length,
-            )
-        })
+        numbers(|numbers| lent::write(&room.to_bytes(), text, numbers))
     }
 
-    fn numbers(call: impl FnOnce(*mut u64, usize) -> u64) -> Numbers {
+    /// The numbers that a call lays into a buffer of five.
+    pub fn numbers(call: impl FnOnce(&mut [u64]) -> u64) -> Numbers {
         let mut numbers = [0; 5];
-        call(numbers.as_mut_ptr(), numbers.len());
-        let [code, count, place, prefix, cycle] = numbers;
-        Numbers {
-            code,
-            count,
-            place,
-            prefix,
-            cycle,
-        }
+        call(&mut numbers);
+        numbers.into()
     }
 }

@@ -3,7 +3,6 @@
 
 #[allow(dead_code)]
 mod generate;
-mod lending;
 #[allow(dead_code)]
 mod reference;
 
@@ -14,7 +13,7 @@ use std::hash::{DefaultHasher, Hash, Hasher};
 use std::process::ExitCode;
 use std::ptr::{null, null_mut};
 use std::time::Instant;
-use stoerwjok::{exported, Code, Numbers, Room};
+use stoerwjok::{exported, lent, numbers, Code, Numbers, Room};
 
 const SEED: u64 = 8;
 const TEXTS: u64 = 40_000;
@@ -211,7 +210,7 @@ fn replied(
 ) -> Option<String> {
     if random.one_in(2) {
         let given = call(Way::Wrapper);
-        return differs(given == numbers(expected.numbers()), &given);
+        return differs(given == Numbers::from(expected.numbers()), &given);
     }
     let length = match random.one_in(2) {
         true => 5,
@@ -229,22 +228,6 @@ fn replied(
 
 fn differs(same: bool, given: &impl std::fmt::Debug) -> Option<String> {
     (!same).then(|| format!("given {given:?}"))
-}
-
-fn numbers([code, count, place, prefix, cycle]: [u64; 5]) -> Numbers {
-    Numbers {
-        code,
-        count,
-        place,
-        prefix,
-        cycle,
-    }
-}
-
-fn five(call: impl FnOnce(&mut [u64]) -> u64) -> Numbers {
-    let mut lent = [0; 5];
-    call(&mut lent);
-    numbers(lent)
 }
 
 fn returned(code: u64) -> Numbers {
@@ -488,7 +471,7 @@ fn check(random: &mut Random, totals: &mut Totals, kind: &str, text: &[u8], subj
     let expected = subject.check();
     let reply = replied(random, &expected, |way| match way {
         Way::Wrapper => stoerwjok::check(text),
-        Way::Exported(numbers) => returned(lending::check(text, numbers)),
+        Way::Exported(numbers) => returned(lent::check(text, numbers)),
     });
     let call = || format!("check \"{}\"", text.escape_ascii());
     let difference = difference(call, &expected, reply, &[]);
@@ -509,8 +492,8 @@ fn read(random: &mut Random, totals: &mut Totals, kind: &str, text: &[u8]) {
             to.copy_from_slice(&read.unwrap_or_default().to_bytes());
             read.err().unwrap_or_default()
         }
-        Way::Wrapper => five(|numbers| lending::read(text, to, numbers)),
-        Way::Exported(numbers) => returned(lending::read(text, to, numbers)),
+        Way::Wrapper => numbers(|numbers| lent::read(text, to, numbers)),
+        Way::Exported(numbers) => returned(lent::read(text, to, numbers)),
     });
     let call = || format!("read \"{}\" to {length}", text.escape_ascii());
     let buffers = [("room", room.holds(&written))];
@@ -525,8 +508,8 @@ fn write(random: &mut Random, totals: &mut Totals, kind: &str, bytes: &[u8], buf
     let room = <&[u8; ROOM_BYTES]>::try_from(bytes).map(Room::from_bytes);
     let reply = replied(random, &expected, |way| match (way, room) {
         (Way::Wrapper, Ok(room)) => stoerwjok::write(&room, to),
-        (Way::Wrapper, Err(_)) => five(|numbers| lending::write(bytes, to, numbers)),
-        (Way::Exported(numbers), _) => returned(lending::write(bytes, to, numbers)),
+        (Way::Wrapper, Err(_)) => numbers(|numbers| lent::write(bytes, to, numbers)),
+        (Way::Exported(numbers), _) => returned(lent::write(bytes, to, numbers)),
     });
     let call = || format!("write {bytes:?} to {buffer}");
     let buffers = [("text", text.holds(&written))];
@@ -552,7 +535,7 @@ fn plan(
     let (lent, to) = (table.lend(), plan.lend());
     let reply = replied(random, &expected, |way| match way {
         Way::Wrapper => stoerwjok::plan(text, lent, to),
-        Way::Exported(numbers) => returned(lending::plan(text, lent, to, numbers)),
+        Way::Exported(numbers) => returned(lent::plan(text, lent, to, numbers)),
     });
     let call = || {
         let text = text.escape_ascii();
@@ -586,7 +569,7 @@ fn judge(
     let (lent, from) = (table.lend(), masks.lend());
     let reply = replied(random, &expected, |way| match way {
         Way::Wrapper => stoerwjok::judge(text, lent, from),
-        Way::Exported(numbers) => returned(lending::judge(text, lent, from, numbers)),
+        Way::Exported(numbers) => returned(lent::judge(text, lent, from, numbers)),
     });
     let call = || {
         let text = text.escape_ascii();
