@@ -1,8 +1,4 @@
 // The rows of the paper: rooms worked by hand, the traps, and a room for each refusal.
-use super::compare::Compared;
-use super::compare::check_both;
-use super::compare::judge_both;
-use super::compare::plan_both;
 use super::line::Line;
 use super::line::no_line;
 use super::line::with_number;
@@ -11,6 +7,10 @@ use super::line::write_line;
 use super::numbers::with_reply;
 use super::tally::Tally;
 use super::tally::with_difference;
+use pair::Compared;
+use pair::check_both;
+use pair::judge_both;
+use pair::plan_both;
 use paper::Room;
 
 // The room of a text; all zeros where the text is none.

@@ -2,8 +2,7 @@
 // the second planner. It writes each row's name and reply, every difference, and how often each reply
 // came.
 mod line; // a line of output
-mod numbers; // replies as numbers and as words
-mod compare; // both planners on one room
+mod numbers; // replies in words
 mod tally; // how often each reply came
 mod hand; // the rows of the paper
 mod chance; // numbers that look like chance

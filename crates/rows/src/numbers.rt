@@ -1,33 +1,7 @@
-// Replies as five numbers, code, count, place, prefix and cycle; and these in words.
+// The five numbers of a reply, code, count, place, prefix and cycle, in words.
 use super::line::Line;
 use super::line::with_number;
 use super::line::with_words;
-use second::Answer;
-
-// The numbers of an answer of the second planner; the code is 13 where the room is too large for it.
-pub fn numbers_of_second(answer: Answer) -> [u64; 5] {
-    match answer {
-        Answer::Good {
-            count,
-            place,
-            prefix,
-            cycle,
-        } => [0, count as u64, place as u64, prefix as u64, cycle as u64],
-        Answer::None { count } => [1, count as u64, 0, 0, 0],
-        Answer::Text { place } => [2, 0, place as u64, 0, 0],
-        Answer::Engines => [3, 0, 0, 0, 0],
-        Answer::Jobs => [4, 0, 0, 0, 0],
-        Answer::Job { place } => [5, 0, place as u64, 0, 0],
-        Answer::Section { place } => [6, 0, place as u64, 0, 0],
-        Answer::Link { place } => [7, 0, place as u64, 0, 0],
-        Answer::Long { place } => [8, 0, place as u64, 0, 0],
-        Answer::Table => [9, 0, 0, 0, 0],
-        Answer::Room => [10, 0, 0, 0, 0],
-        Answer::Short { place } => [11, 0, place as u64, 0, 0],
-        Answer::Out { count, place } => [12, count as u64, place as u64, 0, 0],
-        Answer::TooLarge => [13, 0, 0, 0, 0],
-    }
-}
 
 // The line with the paper's name of a code more.
 pub fn with_code(line: Line, code: u64) -> Line {

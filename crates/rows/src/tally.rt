@@ -1,5 +1,4 @@
 // How often each reply came, and the differences.
-use super::compare::Compared;
 use super::line::Line;
 use super::line::no_line;
 use super::line::with_number;
@@ -7,6 +6,7 @@ use super::line::with_words;
 use super::line::write_line;
 use super::numbers::with_code;
 use super::numbers::with_reply;
+use pair::Compared;
 
 // The number of plans and of pasts by the code of the reply, 13 where the room was too large for the
 // second planner; and the number of differences.

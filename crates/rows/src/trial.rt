@@ -1,8 +1,6 @@
 // Made rooms and their pasts through both planners.
 use super::chance::byte_of;
 use super::chance::seed_of;
-use super::compare::judge_both;
-use super::compare::plan_both;
 use super::made::room_of;
 use super::pasts::any_masks;
 use super::pasts::change_slot;
@@ -11,6 +9,8 @@ use super::pasts::wander;
 use super::tally::Tally;
 use super::tally::with_past;
 use super::tally::with_plan;
+use pair::judge_both;
+use pair::plan_both;
 use paper::Room;
 ghost use Prim.Native.Nat.{_≤_};
 

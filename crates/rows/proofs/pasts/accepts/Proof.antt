@@ -15,8 +15,8 @@ slice-aggregate-judge c = sym (length-take-le _ _ (omega arith))
 judge-requires : tie.Need-judge-requires
 judge-requires c κs = search needs
 
-numbers-of-requires : tie.Need-numbers-of-requires
-numbers-of-requires c κs = search needs
+five-of-requires : tie.Need-five-of-requires
+five-of-requires c κs = search needs
 
 array-read-result : tie.Need-array-read-result
 array-read-result c = search needs
@@ -34,7 +34,7 @@ accepts-spec =
     returns
     slice-aggregate-judge
     judge-requires
-    numbers-of-requires
+    five-of-requires
     array-read-result
     same-length
     returns-2)

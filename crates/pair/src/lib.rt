@@ -1,12 +1,12 @@
-// Both planners on one room: replies and buffers compared.
-use super::numbers::numbers_of_second;
+// The planner and the second planner on one room: replies and buffers compared.
 use paper::Room;
+use second::Answer;
 ghost use Prim.Native.Nat.{ℕ, _<_};
 ghost use mathlib.Core.Path.{_≡_};
 ghost use lib.ListN.{length, getD, replicate};
 ghost use mathlib.Core.Logic.{_⊎_};
 ghost use lib.Dec.{T};
-ghost use Rattle.rows.specs.Same.{TooLarge, Agree};
+ghost use Rattle.pair.specs.Same.{TooLarge, Agree};
 
 // What a table holds before a call, in each number; and a plan buffer, in each slot.
 const FOUND: u64 = 0x5555555555555555;
@@ -131,6 +131,31 @@ fn both_of(first: [u64; 5], second: [u64; 5], table: bool, plan: bool) -> Compar
         first,
         second,
         same,
+    }
+}
+
+// The numbers of an answer of the second planner; the code is 13 where the room is too large for it.
+fn numbers_of_second(answer: Answer) -> [u64; 5] {
+    match answer {
+        Answer::Good {
+            count,
+            place,
+            prefix,
+            cycle,
+        } => [0, count as u64, place as u64, prefix as u64, cycle as u64],
+        Answer::None { count } => [1, count as u64, 0, 0, 0],
+        Answer::Text { place } => [2, 0, place as u64, 0, 0],
+        Answer::Engines => [3, 0, 0, 0, 0],
+        Answer::Jobs => [4, 0, 0, 0, 0],
+        Answer::Job { place } => [5, 0, place as u64, 0, 0],
+        Answer::Section { place } => [6, 0, place as u64, 0, 0],
+        Answer::Link { place } => [7, 0, place as u64, 0, 0],
+        Answer::Long { place } => [8, 0, place as u64, 0, 0],
+        Answer::Table => [9, 0, 0, 0, 0],
+        Answer::Room => [10, 0, 0, 0, 0],
+        Answer::Short { place } => [11, 0, place as u64, 0, 0],
+        Answer::Out { count, place } => [12, count as u64, place as u64, 0, 0],
+        Answer::TooLarge => [13, 0, 0, 0, 0],
     }
 }
 

@@ -1,8 +1,8 @@
--- `rows::compare::plan_both` meets its contract: where all is the same, so are the plan buffers.
+-- `pair::plan_both` meets its contract: where all is the same, so are the plan buffers.
 use mathlib.Core.Logic.{⊎-map}
 use borrow.Author.Needs.{needs}
-use Rattle.rows.proofs.compare.plan_both.Statement.{statement}
-use Rattle.rows.proofs.compare.plan_both.Tie as tie
+use Rattle.pair.proofs.plan_both.Statement.{statement}
+use Rattle.pair.proofs.plan_both.Tie as tie
 
 plan-first-requires : tie.Need-plan-first-requires
 plan-first-requires c κs = search needs

@@ -1,4 +1,4 @@
--- `rows::compare::same_numbers` meets its contract. The two agree at every place below i; where i is their length they are
+-- `pair::same_numbers` meets its contract. The two agree at every place below i; where i is their length they are
 -- equal. The measure is what is left of that length.
 use Prim.Native.Nat.{ℕ, _-_, _≤_, _<_}
 use native.Mathlib.Omega.{arith}
@@ -7,8 +7,8 @@ use lib.ListN.{length, getD}
 use lib.Seq.{ext-getD}
 use borrow.Author.Count.{below-none, below-more}
 use borrow.Author.Needs.{needs}
-use Rattle.rows.proofs.compare.same_numbers.Statement.{statement}
-use Rattle.rows.proofs.compare.same_numbers.Tie as tie
+use Rattle.pair.proofs.same_numbers.Statement.{statement}
+use Rattle.pair.proofs.same_numbers.Tie as tie
 
 abbrev Inv-loop : tie.InvT-loop
 Inv-loop first second i₀ i = (i ≤ length first) × (length first ≡ length second) × ((k : ℕ) → k < i → getD first k 0 ≡ getD second k 0)

@@ -1,11 +1,11 @@
--- `rows::compare::both_of` meets its contract: true comes back only where the room is too large, or after every test has passed.
+-- `pair::both_of` meets its contract: true comes back only where the room is too large, or after every test has passed.
 use mathlib.Core.Path.{_≡_, refl, subst}
 use mathlib.Core.Bool.{Bool, true, false, not}
 use mathlib.Core.Logic.{inl, inr}
 use lib.Dec.{T}
 use borrow.Author.Needs.{needs}
-use Rattle.rows.proofs.compare.both_of.Statement.{statement}
-use Rattle.rows.proofs.compare.both_of.Tie as tie
+use Rattle.pair.proofs.both_of.Statement.{statement}
+use Rattle.pair.proofs.both_of.Tie as tie
 
 -- a test whose contrary failed has passed
 passed : (b : Bool) → not b ≡ false → T b

@@ -1,4 +1,4 @@
--- `rows::compare::same_masks` meets its contract. The two agree at every place below i; where i is their length they are
+-- `pair::same_masks` meets its contract. The two agree at every place below i; where i is their length they are
 -- equal. The measure is what is left of that length.
 use Prim.Native.Nat.{ℕ, _-_, _≤_, _<_}
 use native.Mathlib.Omega.{arith}
@@ -7,8 +7,8 @@ use lib.ListN.{length, getD}
 use lib.Seq.{ext-getD}
 use borrow.Author.Count.{below-none, below-more}
 use borrow.Author.Needs.{needs}
-use Rattle.rows.proofs.compare.same_masks.Statement.{statement}
-use Rattle.rows.proofs.compare.same_masks.Tie as tie
+use Rattle.pair.proofs.same_masks.Statement.{statement}
+use Rattle.pair.proofs.same_masks.Tie as tie
 
 abbrev Inv-loop : tie.InvT-loop
 Inv-loop a b i₀ i = (i ≤ length a) × (length a ≡ length b) × ((k : ℕ) → k < i → getD a k 0 ≡ getD b k 0)

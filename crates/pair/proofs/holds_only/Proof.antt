@@ -1,4 +1,4 @@
--- `rows::compare::holds_only` meets its contract. The invariant: the places below i hold the number. The measure is what is left of
+-- `pair::holds_only` meets its contract. The invariant: the places below i hold the number. The measure is what is left of
 -- the table.
 use Prim.Native.Nat.{ℕ, _-_, _≤_, _<_}
 use native.Mathlib.Omega.{arith}
@@ -6,8 +6,8 @@ use mathlib.Core.Path.{_≡_}
 use lib.ListN.{length, getD}
 use borrow.Author.Count.{below-none, below-more}
 use borrow.Author.Needs.{needs}
-use Rattle.rows.proofs.compare.holds_only.Statement.{statement}
-use Rattle.rows.proofs.compare.holds_only.Tie as tie
+use Rattle.pair.proofs.holds_only.Statement.{statement}
+use Rattle.pair.proofs.holds_only.Tie as tie
 
 abbrev Inv-loop : tie.InvT-loop
 Inv-loop table number i₀ i = (i ≤ length table) × ((k : ℕ) → k < i → getD table k 0 ≡ number)
