@@ -45,6 +45,13 @@ pub fn all() -> Vec<Named> {
     ]
 }
 
+/// A room of more configurations than the largest table holds, 1,048,576: planning it fills the table.
+pub fn too_large() -> Named {
+    let mut largest = all().pop().expect("a list with rooms");
+    largest.room.jobs.push(Job { first: 3, load: 3, deadline: 6, period: 24 });
+    Named { name: "16 jobs, too large", room: largest.room }
+}
+
 /// A room as the paper's text.
 pub fn text(room: &Room) -> Vec<u8> {
     let mut frames = vec![vec![0xa0, room.engines]];

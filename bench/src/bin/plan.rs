@@ -1,5 +1,6 @@
 //! Planning and judging beside the native planner, in one run, with the table touched before on both
-//! sides: configurations, masks looked at, seconds, and the ratio. Needs `rt staticlib export`.
+//! sides: configurations, masks looked at, seconds, and the ratio. Needs `rt staticlib export`. A word
+//! on the command line leaves only the rooms whose names have it.
 
 use bench::native::{self, Answer, Room};
 use bench::rooms;
@@ -30,11 +31,8 @@ extern "C" {
 }
 
 const PLACES: usize = 1 << 20;
-
-struct Lent {
-    table: Vec<u64>,
-    plan: Vec<u16>,
-}
+const JUDGED: usize = 1 << 14;
+const SLOTS: usize = 1_000_000;
 
 fn plan(text: &[u8], table: &mut [u64], buffer: &mut [u16]) -> [u64; 5] {
     let mut numbers = [0; 5];
@@ -70,13 +68,19 @@ fn judge(text: &[u8], table: &mut [u64], past: &[u16]) -> [u64; 5] {
     numbers
 }
 
-/// The least of some runs, in seconds.
-fn least(runs: usize, mut work: impl FnMut()) -> f64 {
-    (0..runs).fold(f64::INFINITY, |best, _| {
+/// The least of some runs of each side, in seconds. The sides take turns, so that a machine that is
+/// busy for a while is busy for both.
+fn least(runs: usize, own: &mut dyn FnMut(), native: &mut dyn FnMut()) -> (f64, f64) {
+    let seconds = |work: &mut dyn FnMut()| {
         let start = Instant::now();
         work();
-        best.min(start.elapsed().as_secs_f64())
-    })
+        start.elapsed().as_secs_f64()
+    };
+    let mut best = (f64::INFINITY, f64::INFINITY);
+    for _ in 0..runs {
+        best = (best.0.min(seconds(own)), best.1.min(seconds(native)));
+    }
+    best
 }
 
 fn numbers_of(answer: Answer) -> [u64; 5] {
@@ -89,59 +93,86 @@ fn numbers_of(answer: Answer) -> [u64; 5] {
     }
 }
 
-fn compare(name: &str, room: &Room, lent: &mut Lent, places: usize, runs: usize) {
+/// Plans a room on both sides in a table of so many places, compares the replies, and prints a row.
+fn compare(name: &str, room: &Room, table: &mut [u64], buffers: &mut [Vec<u16>; 2]) {
     let text = rooms::text(room);
-    let table = &mut lent.table[..places * 4];
-    let reply = plan(&text, table, &mut lent.plan);
-    let outcome = native::plan(room, table, &mut lent.plan);
-    assert_eq!(reply, numbers_of(outcome.answer), "{name}");
-    let own = least(runs, || {
-        plan(&text, table, &mut lent.plan);
-    });
-    let other = least(runs, || {
-        native::plan(room, table, &mut lent.plan);
-    });
-    let steps = outcome.steps;
+    let [ours, theirs] = buffers;
+    let lent = std::cell::RefCell::new(table);
+    let first = native::plan(room, &mut lent.borrow_mut(), theirs);
+    let runs = (100_000_000 / first.steps).clamp(2, 300) as usize;
+    let mut reply = [0; 5];
+    let (own, other) = least(
+        runs,
+        &mut || reply = plan(&text, &mut lent.borrow_mut(), ours),
+        &mut || drop(native::plan(room, &mut lent.borrow_mut(), theirs)),
+    );
+    assert_eq!(reply, numbers_of(first.answer), "{name}");
+    assert_eq!(ours, theirs, "{name}");
     println!(
-        "{name:<26} code {:>2} {:>9} {steps:>11} {own:>9.4} {other:>9.4} {:>8.1} {:>6.2}",
+        "{name:<28} code {:>2} {:>9} {:>11} {own:>9.4} {other:>9.4} {:>8.1} {:>6.2}",
         reply[0],
         reply[1],
-        own * 1e9 / steps as f64,
+        first.steps,
+        own * 1e9 / first.steps as f64,
         own / other
     );
 }
 
-fn past_of(room: &Room, lent: &mut Lent, slots: usize) -> Vec<u16> {
-    let numbers = plan(&rooms::text(room), &mut lent.table, &mut lent.plan);
+/// The first slots of the plan of a room.
+fn plan_of(room: &Room, table: &mut [u64], buffer: &mut [u16]) -> Vec<u16> {
+    let numbers = plan(&rooms::text(room), table, buffer);
     let (prefix, length) = (numbers[3] as usize, (numbers[3] + numbers[4]) as usize);
     let slot = |s: usize| if s < length { s } else { prefix + (s - prefix) % (length - prefix) };
-    (0..slots).map(|s| lent.plan[slot(s)]).collect()
+    (0..SLOTS).map(|s| buffer[slot(s)]).collect()
+}
+
+/// Judges a past on both sides, compares the replies, and prints a row.
+fn compare_judges(name: &str, room: &Room, table: &mut [u64], past: &[u16]) {
+    let text = rooms::text(room);
+    let lent = std::cell::RefCell::new(table);
+    let mut reply = [0; 5];
+    let mut answer = Answer::Full;
+    let (own, other) = least(
+        5,
+        &mut || reply = judge(&text, &mut lent.borrow_mut(), past),
+        &mut || answer = native::judge(room, &mut lent.borrow_mut(), past).answer,
+    );
+    assert_eq!(reply, numbers_of(answer), "{name}");
+    assert_eq!(reply[0], 0, "{name}");
+    println!("{name:<28} {:>9} {own:>9.4} {other:>9.4} {:>6.2}", past.len(), own / other);
 }
 
 fn main() {
-    let mut lent = Lent { table: vec![1; PLACES * 4], plan: vec![1; PLACES] };
+    let word = std::env::args().nth(1).unwrap_or_default();
+    let named = |name: &str| name.contains(&word);
+    let rooms: Vec<_> = rooms::all().into_iter().filter(|room| named(room.name)).collect();
+    let mut table = vec![1; PLACES * 4];
+    let mut buffers = [vec![1; PLACES], vec![1; PLACES]];
     println!(
-        "{:<26} {:>7} {:>9} {:>11} {:>9} {:>9} {:>8} {:>6}",
+        "{:<28} {:>7} {:>9} {:>11} {:>9} {:>9} {:>8} {:>6}",
         "plan", "", "count", "masks", "seconds", "native", "ns/mask", "ratio"
     );
-    for named in rooms::all() {
-        let count = native::configurations(&named.room, &mut lent.table).len();
-        let runs = (2_000_000 / count).clamp(3, 200);
-        compare(named.name, &named.room, &mut lent, count, runs);
-        compare(&format!("{}, one short", named.name), &named.room, &mut lent, count - 1, runs);
+    let mut judged = Vec::new();
+    for room in &rooms {
+        let count = native::configurations(&room.room, &mut table).len();
+        compare(room.name, &room.room, &mut table[..count * 4], &mut buffers);
+        compare(&format!("{}, one short", room.name), &room.room, &mut table[..(count - 1) * 4], &mut buffers);
+        if count <= JUDGED {
+            judged.push(room);
+        }
     }
-    println!("\n{:<26} {:>11} {:>9} {:>9} {:>6}", "judge", "slots", "seconds", "native", "ratio");
-    for named in rooms::all().iter().take(4) {
-        let past = past_of(&named.room, &mut lent, 1_000_000);
-        let text = rooms::text(&named.room);
-        let table = &mut lent.table[..1 << 16];
-        assert_eq!(judge(&text, table, &past)[0], 0, "{}", named.name);
-        let own = least(3, || {
-            judge(&text, table, &past);
-        });
-        let other = least(3, || {
-            native::judge(&named.room, table, &past);
-        });
-        println!("{:<26} {:>11} {own:>9.4} {other:>9.4} {:>6.2}", named.name, past.len(), own / other);
+    let large = rooms::too_large();
+    if named(large.name) {
+        compare(large.name, &large.room, &mut table, &mut buffers);
+    }
+    println!("\n{:<28} {:>9} {:>9} {:>9} {:>6}", "judge the plan", "slots", "seconds", "native", "ratio");
+    for room in &judged {
+        let past = plan_of(&room.room, &mut table[..JUDGED * 4], &mut buffers[0]);
+        compare_judges(room.name, &room.room, &mut table[..JUDGED * 4], &past);
+    }
+    println!("\n{:<28} {:>9} {:>9} {:>9} {:>6}", "judge another past", "slots", "seconds", "native", "ratio");
+    for room in &judged {
+        let past = native::wander(&room.room, &mut table[..JUDGED * 4], SLOTS);
+        compare_judges(room.name, &room.room, &mut table[..JUDGED * 4], &past);
     }
 }
