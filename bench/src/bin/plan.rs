@@ -5,68 +5,11 @@
 use bench::native::{self, Answer, Room};
 use bench::rooms;
 use std::time::Instant;
-
-#[link(name = "export", kind = "static")]
-extern "C" {
-    fn stoerwjok_plan(
-        text: *const u8,
-        text_length: usize,
-        table: *mut u64,
-        table_length: usize,
-        plan: *mut u16,
-        plan_length: usize,
-        numbers: *mut u64,
-        numbers_length: usize,
-    ) -> u64;
-    fn stoerwjok_judge(
-        text: *const u8,
-        text_length: usize,
-        table: *mut u64,
-        table_length: usize,
-        past: *const u16,
-        past_length: usize,
-        numbers: *mut u64,
-        numbers_length: usize,
-    ) -> u64;
-}
+use stoerwjok::{judge, plan, Numbers};
 
 const PLACES: usize = 1 << 20;
 const JUDGED: usize = 1 << 14;
 const SLOTS: usize = 1_000_000;
-
-fn plan(text: &[u8], table: &mut [u64], buffer: &mut [u16]) -> [u64; 5] {
-    let mut numbers = [0; 5];
-    unsafe {
-        stoerwjok_plan(
-            text.as_ptr(),
-            text.len(),
-            table.as_mut_ptr(),
-            table.len(),
-            buffer.as_mut_ptr(),
-            buffer.len(),
-            numbers.as_mut_ptr(),
-            numbers.len(),
-        );
-    }
-    numbers
-}
-
-fn judge(text: &[u8], table: &mut [u64], past: &[u16]) -> [u64; 5] {
-    let mut numbers = [0; 5];
-    unsafe {
-        stoerwjok_judge(
-            text.as_ptr(),
-            text.len(),
-            table.as_mut_ptr(),
-            table.len(),
-            past.as_ptr(),
-            past.len(),
-            numbers.as_mut_ptr(),
-            numbers.len(),
-        );
-    }
-    numbers
-}
 
 /// The least of some runs of each side, in seconds. The sides take turns, so that a machine that is
 /// busy for a while is busy for both.
@@ -83,14 +26,15 @@ fn least(runs: usize, own: &mut dyn FnMut(), native: &mut dyn FnMut()) -> (f64, 
     best
 }
 
-fn numbers_of(answer: Answer) -> [u64; 5] {
-    match answer {
+fn numbers_of(answer: Answer) -> Numbers {
+    let numbers: [u64; 5] = match answer {
         Answer::Good { count, prefix, cycle } => [0, count as u64, 0, prefix as u64, cycle as u64],
         Answer::None { count } => [1, count as u64, 0, 0, 0],
         Answer::Full => [10, 0, 0, 0, 0],
         Answer::Short { place } => [11, 0, place as u64, 0, 0],
         Answer::Out { count, place } => [12, count as u64, place as u64, 0, 0],
-    }
+    };
+    numbers.into()
 }
 
 /// Plans a room on both sides in a table of so many places, compares the replies, and prints a row.
@@ -100,7 +44,7 @@ fn compare(name: &str, room: &Room, table: &mut [u64], buffers: &mut [Vec<u16>; 
     let lent = std::cell::RefCell::new(table);
     let first = native::plan(room, &mut lent.borrow_mut(), theirs);
     let runs = (100_000_000 / first.steps).clamp(2, 300) as usize;
-    let mut reply = [0; 5];
+    let mut reply = Numbers::default();
     let (own, other) = least(
         runs,
         &mut || reply = plan(&text, &mut lent.borrow_mut(), ours),
@@ -110,8 +54,8 @@ fn compare(name: &str, room: &Room, table: &mut [u64], buffers: &mut [Vec<u16>; 
     assert_eq!(ours, theirs, "{name}");
     println!(
         "{name:<28} code {:>2} {:>9} {:>11} {own:>9.4} {other:>9.4} {:>8.1} {:>6.2}",
-        reply[0],
-        reply[1],
+        reply.code,
+        reply.count,
         first.steps,
         own * 1e9 / first.steps as f64,
         own / other
@@ -121,7 +65,7 @@ fn compare(name: &str, room: &Room, table: &mut [u64], buffers: &mut [Vec<u16>; 
 /// The first slots of the plan of a room.
 fn plan_of(room: &Room, table: &mut [u64], buffer: &mut [u16]) -> Vec<u16> {
     let numbers = plan(&rooms::text(room), table, buffer);
-    let (prefix, length) = (numbers[3] as usize, (numbers[3] + numbers[4]) as usize);
+    let (prefix, length) = (numbers.prefix as usize, (numbers.prefix + numbers.cycle) as usize);
     let slot = |s: usize| if s < length { s } else { prefix + (s - prefix) % (length - prefix) };
     (0..SLOTS).map(|s| buffer[slot(s)]).collect()
 }
@@ -130,7 +74,7 @@ fn plan_of(room: &Room, table: &mut [u64], buffer: &mut [u16]) -> Vec<u16> {
 fn compare_judges(name: &str, room: &Room, table: &mut [u64], past: &[u16]) {
     let text = rooms::text(room);
     let lent = std::cell::RefCell::new(table);
-    let mut reply = [0; 5];
+    let mut reply = Numbers::default();
     let mut answer = Answer::Full;
     let (own, other) = least(
         5,
@@ -138,7 +82,7 @@ fn compare_judges(name: &str, room: &Room, table: &mut [u64], past: &[u16]) {
         &mut || answer = native::judge(room, &mut lent.borrow_mut(), past).answer,
     );
     assert_eq!(reply, numbers_of(answer), "{name}");
-    assert_eq!(reply[0], 0, "{name}");
+    assert_eq!(reply.code, 0, "{name}");
     println!("{name:<28} {:>9} {own:>9.4} {other:>9.4} {:>6.2}", past.len(), own / other);
 }
 
