@@ -4,16 +4,13 @@
 --   greatest-first-exists, clock-exists           a room with jobs has an R, one within the limits a clock
 --   period-positive                               no period is 0
 --   clock-short                                   R is at most 255, H at most 4,096
-use Prim.Native.Nat.{ℕ, zero, suc, _+_, _-_, _≤_, _<_, _%_}
+use Prim.Native.Nat.{ℕ, suc, _-_, _≤_, _<_, _%_}
 use native.Mathlib.Omega.{arith}
-use native.Mathlib.Numerals.{add-one}
-use mathlib.Core.Path.{_≡_, refl}
-use mathlib.Core.Logic.{⊎-elim}
+use mathlib.Core.Path.{_≡_}
 use Rattle.paper.specs.declared.Room.{Room}
 use Rattle.paper.specs.Room.{first, period, Multiple, GreatestFirst, Clock, Limits}
-use borrow.Author.Count.{below-more}
 use Rattle.laws.specs.Multiples.{Common}
-use Rattle.laws.proofs.Tests.{lt-or-le}
+use Rattle.laws.proofs.Greatest.{greatest-exists}
 use Rattle.laws.proofs.Multiples.{least-one, least-divides}
 
 -- ---- One clock
@@ -33,26 +30,12 @@ module _ {room : Room} where
 
 -- ---- There is one
 
--- where the greatest of f 0 to f (n - 1) stands
-abbrev Best : (ℕ → ℕ) → ℕ → Type 0
-Best f n = (j : ℕ) × (j < n) × ((i : ℕ) → i < n → f i ≤ f j)
-
-best-more : (f : ℕ → ℕ) (n : ℕ) → Best f n → Best f (n + 1)
-best-more f n b =
-    ⊎-elim
-    (λ (h : f (b .0) < f n). (n, omega arith, below-more (λ i. f i ≤ f n) n (λ i g. let w = b .2 i g in omega arith) (omega arith)))
-    (λ (h : f n ≤ f (b .0)). (b .0, omega arith, below-more (λ i. f i ≤ f (b .0)) n (b .2) h))
-    (lt-or-le (f (b .0)) (f n))
-
-best : (f : ℕ → ℕ) (n : ℕ) → Best f (suc n)
-best f zero = (0, omega arith, below-more (λ i. f i ≤ f 0) 0 (λ i g. absurd (omega arith)) (omega arith))
-best f (suc n) = rw add-one at (best-more f (suc n) (best f n))
-
 pub greatest-first-exists : (room : Room) → 1 ≤ room .jobs → (R : ℕ) × GreatestFirst room R
 greatest-first-exists room h =
     let e : suc (room .jobs - 1) ≡ room .jobs = omega arith in
-    let b = rw e at (best (first room) (room .jobs - 1)) in
-    (first room (b .0), record { bound = b .2; which = b .0; known = b .1; same = refl })
+    let b = rw e at (greatest-exists (first room) (room .jobs - 1)) in
+    let g = b .1 in
+    (b .0, record { bound = g .bound; which = g .which; known = g .known; same = g .same })
 
 pub clock-exists : {room : Room} → Limits room → (R : ℕ) × (H : ℕ) × Clock room R H
 clock-exists {room} limits =

@@ -4,15 +4,11 @@
 --   first-many, first-of            so does one for more than most entries, and then for the least bad one
 --   multiple-next                   the least common multiple with one more number
 --   within-all, within-limits       where all jobs are within 4,096, H is their multiple; within the limits they are
---   Greatest                        the greatest of n numbers
---   greatest-one                    of one number
---   greatest-more, greatest-kept    with one more, which is greater or not
 use Prim.Native.Nat.{ℕ, _+_, _≤_, _<_, _%_}
 use native.Mathlib.Omega.{arith}
-use mathlib.Core.Path.{_≡_, refl, sym, subst, _∙_}
+use mathlib.Core.Path.{_≡_, refl, subst}
 use mathlib.Core.Logic.{⊎-elim}
 use mathlib.Core.Bool.{Bool, true, false, not}
-use borrow.Author.Count.{below-none, below-more}
 use borrow.Author.Tests.{not-false}
 use Rattle.laws.specs.Multiples.{LeastCommon}
 use Rattle.laws.proofs.Tests.{T-of, lt-or-le}
@@ -63,25 +59,3 @@ module _ {room : Room} {i h : ℕ} (w : Within room i h) where
       (λ (l : i < room .jobs). absurd (omega (arith, passes-long (w .passes l) (limits .multiple), limits .short)))
       within-all
       (lt-or-le i (room .jobs))
-
--- ---- R
-
-pub record Greatest (f : ℕ → ℕ) (n r : ℕ) : Type 0 where
-  pub bound : (i : ℕ) → i < n → f i ≤ r
-  pub which : ℕ
-  pub known : which < n
-  pub same : f which ≡ r
-
-module _ (f : ℕ → ℕ) where
-  pub greatest-one : Greatest f 1 (f 0)
-  greatest-one = record { bound = below-more _ 0 (below-none _) (omega arith); which = 0; known = omega arith; same = refl }
-
-  module _ {n r v : ℕ} (g : Greatest f n r) where
-    greatest-at : (j : ℕ) → j < n + 1 → f j ≡ v → r ≤ v → f n ≤ v → Greatest f (n + 1) v
-    greatest-at j k e a b = record { bound = below-more (λ i. f i ≤ v) n (λ i l. omega (arith, g .bound i l)) b; which = j; known = k; same = e }
-
-    pub greatest-more : r < f n → v ≡ f n → Greatest f (n + 1) v
-    greatest-more l e = greatest-at n (omega arith) (sym e) (omega arith) (omega arith)
-
-    pub greatest-kept : f n ≤ r → v ≡ r → Greatest f (n + 1) v
-    greatest-kept l e = greatest-at (g .which) (omega (arith, g .known)) (g .same ∙ sym e) (omega arith) (omega arith)

@@ -6,7 +6,7 @@ use mathlib.Core.Logic.{⊎-elim}
 use borrow.Author.Needs.{needs}
 use lib.ListN.{getD}
 use Rattle.paper.specs.Room.{noJob}
-use Rattle.room.proofs.Checks.{Greatest, greatest-one, greatest-more, greatest-kept}
+use Rattle.laws.proofs.Greatest.{Greatest, greatest-one, greatest-more, greatest-kept}
 use Rattle.room.proofs.greatest_first.Statement.{statement}
 use Rattle.room.proofs.greatest_first.Tie as tie
 
