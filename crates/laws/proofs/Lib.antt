@@ -4,6 +4,7 @@ pub mod Lists
 pub mod Bits
 pub mod Walks
 pub mod Certificate
+pub mod Finite
 pub mod Places
 pub mod Repeats
 pub mod Multiples

@@ -4,7 +4,7 @@
 --   row-length, row-at           the length of a row, and what stands at a place of it
 --   row-same                     rows of functions that agree on their numbers
 --   row-add, row-more            a row in two parts, and with one more at its end
---   take-row                     the front of a row
+--   take-row, row-list           the front of a row, and a list as a row
 --   beginning-length, beginning-at, beginning-same, take-beginning, beginning-more
 --                                the same of the beginning of a sequence
 --   times-add, times-more        a repetition in two parts, and once more
@@ -23,11 +23,13 @@
 --   place-in                     a member stands at its place
 --   place-lt                     what has a place within the list stands there
 --   place-at                     in a distinct list the place of what stands at i is i
+--   in-flatMap                   members of the lists that a function gives for members of a list
+--   numbers, in-numbers          the lists of n numbers below b, and what is one of them
 use mathlib.Core.Path.{_≡_, refl, sym, _∙_, ap, subst}
 use mathlib.Core.Logic.{_↔_, _⊎_, _≢_, ⊎-elim, ⊎-map}
 use mathlib.Core.HLevel.{Discrete}
-use mathlib.Core.List.{List, [], _∷_, _++_, append-assoc, append-nil, List·Memᴰ·head, List·Memᴰ·tail, List·Memᴰ·cases-cons, List·Memᴰ·not-nil}
-use mathlib.Core.List.{Memᴰ·cast, Memᴰ·append-left, Memᴰ·append-right, List·Memᴰ·append-cases, List·Memᴰ·eq-of-singleton}
+use mathlib.Core.List.{List, [], _∷_, _++_, map, flatMap, append-assoc, append-nil, List·Memᴰ·head, List·Memᴰ·tail, List·Memᴰ·cases-cons, List·Memᴰ·not-nil}
+use mathlib.Core.List.{Memᴰ·cast, Memᴰ·map, Memᴰ·append-left, Memᴰ·append-right, List·Memᴰ·append-cases, List·Memᴰ·eq-of-singleton}
 use Prim.Native.Nat.{ℕ, zero, suc, _+_, _*_, _≤_, _<_}
 use native.Mathlib.Omega.{arith}
 use native.Mathlib.Nat.{add-zero, zero-add, suc-add, zero-mul, suc-mul}
@@ -86,6 +88,14 @@ module _ {A : Type 0} where
   take-row f i zero n h = refl
   take-row f i (suc k) zero h = absurd (omega arith)
   take-row f i (suc k) (suc n) h = ap (λ (l : List A). f i ∷ l) (take-row f (suc i) k n (omega arith))
+
+  pub row-list : (f : ℕ → A) (i : ℕ) (l : List A) (d : A) → ((j : ℕ) → j < length l → f (i + j) ≡ getD l j d) → row f i (length l) ≡ l
+  unfolding row
+  row-list f i [] d e = refl
+  row-list f i (x ∷ l) d e =
+      let a : f i ≡ x = ap f (sym (add-zero i)) ∙ e 0 (omega arith) in
+      let b = row-list f (suc i) l d (λ j h. let q : suc i + j ≡ i + suc j = omega arith in ap f q ∙ e (suc j) (omega arith)) in
+      rw (a, b)
 
   -- ---- Beginnings
 
@@ -249,3 +259,23 @@ module _ {A : Type 0} where
     place-at l d s i h =
         let r = place-in l d (at-in l d i h) in
         distinct-at l d s (place (getD l i d) l) i (r .0) h (r .1)
+
+-- ---- Every list of n numbers below b
+
+pub in-flatMap : {A B : Type 0} (f : A → List B) {a : A} {b : B} (l : List A) → a ∈ l → b ∈ f a → b ∈ flatMap f l
+unfolding flatMap
+in-flatMap f {b = b} (x ∷ l) (List·Memᴰ·head e) q = Memᴰ·append-left (flatMap f l) (subst (λ y. b ∈ f y) e q)
+in-flatMap f (x ∷ l) (List·Memᴰ·tail p) q = Memᴰ·append-right (f x) (in-flatMap f l p q)
+
+unfoldable pub numbers : ℕ → ℕ → List (List ℕ)
+numbers b zero = [] ∷ []
+numbers b (suc n) = flatMap (λ x. map (λ (l : List ℕ). x ∷ l) (numbers b n)) (beginning (λ i. i) b)
+
+pub in-numbers : (b n : ℕ) (l : List ℕ) → length l ≡ n → ((i : ℕ) → i < n → getD l i 0 < b) → l ∈ numbers b n
+unfolding numbers
+in-numbers b zero [] e h = List·Memᴰ·head refl
+in-numbers b zero (x ∷ l) e h = absurd (omega arith)
+in-numbers b (suc n) [] e h = absurd (omega arith)
+in-numbers b (suc n) (x ∷ l) e h =
+    in-flatMap _ (beginning (λ i. i) b) (at-in-beginning (λ i. i) b x (h 0 (omega arith)))
+    (Memᴰ·map (λ (k : List ℕ). x ∷ k) (in-numbers b n l (omega arith) (λ i g. h (suc i) (omega arith))))

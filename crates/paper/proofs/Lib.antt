@@ -10,6 +10,7 @@ pub mod Laws
 pub mod Pasts
 pub mod Certificates
 pub mod Plans
+pub mod Unrolled
 pub mod Words
 pub mod Automaton
 pub mod Products
@@ -27,3 +28,4 @@ pub mod Entries
 pub mod Grammar
 pub mod Reader
 pub mod Replies
+pub mod Means

@@ -1,13 +1,15 @@
 -- The plan, for ever: a list of masks follows the greatest ones exactly if it is a greedy walk, so the paper's plan is that of crate laws.
--- With a certificate it exists for every feasible room, and a past in the centre goes on as a prefix and a cycle.
+-- Every room within the limits has a certificate; so each feasible one has its plan, and a past in the centre goes on as a prefix and a cycle.
 --   Follows                 each mask is the greatest after its beginning
---   greedy-follows, follows-greedy   greedy walks, for a feasible room
+--   for-ever-centre         a past that goes on for ever is in the centre, in any room
+--   greedy-follows, follows-greedy   greedy walks
 --   plan-of, of-plan        plans
 --   plan-for-ever           prefix and cycle of a plan, the cycle n times: admissible, and made of greatest masks
---   plan-endless            a plan's masks for ever are an endless schedule
---   plan-exists             a feasible room that has a certificate has a plan, no longer than its count
---   feasible-endless        it is feasible exactly if an endless schedule exists
---   centre-for-ever         a past is in the centre exactly if it goes on as a prefix and a cycle repeated for ever
+--   plan-exists             a feasible room has a plan, no longer than its count
+--   centre-goes-on          a past in the centre goes on as a prefix and a cycle, and stays there
+--   centre-for-ever         a past is in the centre exactly if it goes on so for ever
+--   centre-further          it has continuations in the centre as long as one likes
+--   feasible-endless        a room is feasible exactly if an endless schedule exists
 use Prim.Native.Nat.{ℕ, _≤_, _<_}
 use native.Mathlib.Omega.{arith}
 use native.Mathlib.Nat.{mul-le-mul-left}
@@ -18,11 +20,11 @@ use mathlib.Core.List.{List, [], _∷_, _++_, append-assoc}
 use lib.ListN.{length, take, drop, getD, length-append, take-append-drop, List·getD-append}
 use lib.Seq.{drop-cons, take-append-le, take-append-seam, getD-append-seam}
 use Rattle.paper.specs.declared.Room.{Room}
-use Rattle.paper.specs.declared.Configuration.{Configuration}
 use Rattle.paper.specs.Room.{Clock, Limits}
 use Rattle.paper.specs.Centre.{times, beginning, Centre, Feasible, Endless, ForEver}
-use Rattle.paper.specs.Configuration.{configuration}
+use Rattle.paper.specs.Configuration.{configuration, Counted}
 use Rattle.paper.specs.Plan.{Greatest, Plan}
+use Rattle.paper.specs.Reply.{CountIs}
 use Rattle.laws.specs.Walks.{after}
 use Rattle.laws.specs.Forever.{Greedy}
 use Rattle.laws.specs.Forever.Greedy.{end, pick}
@@ -34,8 +36,10 @@ use Rattle.laws.proofs.Forever.{greedy-walk, greedy-append, greedy-parts, plan-
 use Rattle.paper.proofs.Steps.{step, begin}
 use Rattle.paper.proofs.Tests.{test}
 use Rattle.paper.proofs.Beginnings.{beginning-admissible, take-admissible}
+use Rattle.paper.proofs.Clocks.{clock-exists}
+use Rattle.paper.proofs.Uniques.{counted-one}
 use Rattle.paper.proofs.Pasts.{at-after, past-walk, past-centre, past-greatest}
-use Rattle.paper.proofs.Certificates.{same-configuration, Certified}
+use Rattle.paper.proofs.Certificates.{same-configuration, certified-count, room-certified}
 
 abbrev pub Follows : Room → List ℕ → Type 0
 Follows room l = (t : ℕ) → t < length l → Greatest room (take t l) (getD l t 0)
@@ -50,18 +54,15 @@ follows-before : {room : Room} (l : List ℕ) (m : ℕ) → Follows room (l ++ (
 follows-before {room} l m f t h =
     rw (take-append-le t l (m ∷ []) (omega arith), List·getD-append l (m ∷ []) 0 t h) at (f t (rw length-more (omega arith)))
 
+rounds-long : (prefix cycle : List ℕ) → 0 < length cycle → (n : ℕ) → n ≤ length (prefix ++ times n cycle)
+rounds-long prefix cycle h n = let e = mul-le-mul-left n h in simp (length-append, length-times) (omega arith)
+
 -- a past that goes on for ever is in the centre, in any room
 pub for-ever-centre : {room : Room} (l prefix cycle : List ℕ) → ForEver room l prefix cycle → Centre room l
 for-ever-centre {room} l prefix cycle f = record {
   admissible = beginning-admissible room l (prefix ++ times 0 cycle) (rw append-assoc at (f .keeps 0));
-  continues = λ n. record { rest = prefix ++ times n cycle; long = long n; keeps = rw append-assoc at (f .keeps n) };
+  continues = λ n. record { rest = prefix ++ times n cycle; long = rounds-long prefix cycle (f .turns) n; keeps = rw append-assoc at (f .keeps n) };
 }
-  where
-    long : (n : ℕ) → n ≤ length (prefix ++ times n cycle)
-    long n =
-        let t = f .turns in
-        let e = mul-le-mul-left n t in
-        simp (length-append, length-times) (omega arith)
 
 first-greatest : {C : Type 0} {test : C → ℕ → Bool} {step : C → ℕ → C} {c : C} {m : ℕ} {l : List ℕ} → Greedy test step c (m ∷ l) → Greatest-at test step c m
 first-greatest (pick g w) = g
@@ -111,26 +112,46 @@ module _ {room : Room} (limits : Limits room) {R H : ℕ} (clock : Clock room R 
         λ n. greedy-follows _ (f .greedy n),
       )
 
-  -- ---- With a certificate
+  -- ---- Every room within the limits
 
-  module _ {cs : List Configuration} (z : Certified room R H cs) where
-    pub plan-exists : Feasible room → (masks : List ℕ) × (a : ℕ) × (length masks ≤ length cs) × Plan room R H masks a
-    plan-exists c =
-        let r = feasible-plan (test room) (step room R H) z same-configuration (past-centre limits clock [] .0 c) in
-        let e : length (r .2) ≡ r .1 = r .4 .long in
-        let h : r .1 ≤ length cs = r .3 in
-        (r .2, r .0, omega arith, plan-of (rw e (r .4)))
+  pub plan-exists : {n : ℕ} → Counted room R H n → Feasible room → (masks : List ℕ) × (a : ℕ) × (length masks ≤ n) × Plan room R H masks a
+  plan-exists {n} counted c =
+      let z = room-certified limits clock in
+      let r = feasible-plan (test room) (step room R H) (z .1) same-configuration (past-centre limits clock [] .0 c) in
+      let size : length (z .0) ≡ n = counted-one _ _ (count-is (certified-count limits clock (z .1))) (count-is counted) in
+      let e : length (r .2) ≡ r .1 = r .4 .long in
+      let h : r .1 ≤ length (z .0) = r .3 in
+      (r .2, r .0, omega arith, plan-of (rw e (r .4)))
+    where
+      count-is : {n : ℕ} → Counted room R H n → CountIs room n
+      count-is x = record { R = R; H = H; clock = clock; counted = x }
 
-    pub feasible-endless : Feasible room ↔ ((s : ℕ → ℕ) × Endless room s)
-    feasible-endless = (
-      λ c. let s = feasible-iff-endless (test room) (step room R H) z .0 (past-centre limits clock [] .0 c) in
-          (s .0, λ n. past-walk limits clock _ .1 (s .1 n .0)),
-      λ s. record { admissible = take-admissible room (beginning (s .0) 1) 0 (s .1 1); continues = λ n. record { rest = beginning (s .0) n; long = rw beginning-length (omega arith); keeps = s .1 n } },
-    )
+module _ {room : Room} (limits : Limits room) where
+  pub centre-goes-on : (l : List ℕ) → Centre room l
+      → (prefix : List ℕ) × (cycle : List ℕ) × (0 < length cycle) × ((n : ℕ) → Centre room (l ++ (prefix ++ times n cycle)))
+  centre-goes-on l c =
+      let x = clock-exists limits in
+      let z = room-certified limits (x .2) in
+      let r = continues (test room) (step room (x .0) (x .1)) (z .1) same-configuration l (past-centre limits (x .2) l .0 c) in
+      (r .0, r .1, r .2, λ n. past-centre limits (x .2) _ .1 (r .3 n))
 
-    pub centre-for-ever : (l : List ℕ) → Centre room l ↔ ((prefix : List ℕ) × (cycle : List ℕ) × ForEver room l prefix cycle)
-    centre-for-ever l = (
-      λ c. let r = continues (test room) (step room R H) z same-configuration l (past-centre limits clock l .0 c) in
-          (r .0, r .1, record { turns = r .2; keeps = λ n. rw append-assoc (past-walk limits clock _ .1 (r .3 n .0)) }),
-      λ r. for-ever-centre l (r .0) (r .1) (r .2),
-    )
+  pub centre-for-ever : (l : List ℕ) → Centre room l ↔ ((prefix : List ℕ) × (cycle : List ℕ) × ForEver room l prefix cycle)
+  centre-for-ever l = (
+    λ c. let r = centre-goes-on l c in (r .0, r .1, record { turns = r .2; keeps = λ n. rw append-assoc (r .3 n .admissible) }),
+    λ r. for-ever-centre l (r .0) (r .1) (r .2),
+  )
+
+  pub centre-further : (l : List ℕ) → Centre room l → (n : ℕ) → (r : List ℕ) × (n ≤ length r) × Centre room (l ++ r)
+  centre-further l c n = let r = centre-goes-on l c in (r .0 ++ times n (r .1), rounds-long (r .0) (r .1) (r .2) n, r .3 n)
+
+  pub feasible-endless : Feasible room ↔ ((s : ℕ → ℕ) × Endless room s)
+  feasible-endless =
+      let x = clock-exists limits in
+      let z = room-certified limits (x .2) in (
+        λ c. let s = feasible-iff-endless (test room) (step room (x .0) (x .1)) (z .1) .0 (past-centre limits (x .2) [] .0 c) in
+            (s .0, λ n. past-walk limits (x .2) _ .1 (s .1 n .0)),
+        λ s. record {
+          admissible = take-admissible room (beginning (s .0) 1) 0 (s .1 1);
+          continues = λ n. record { rest = beginning (s .0) n; long = rw beginning-length (omega arith); keeps = s .1 n };
+        },
+      )

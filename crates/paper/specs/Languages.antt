@@ -1,4 +1,4 @@
--- The languages of document 004 (Geniet and Largeteau), sections 3.1 to 3.3, in their order there.
+-- The languages of document 004 (Geniet and Largeteau), sections 3.1 to 3.3 and 4.1, in their order there.
 --   Shuffle                            Definition 1, the words of u ⧢ v
 --   Just, Then, Star                   the language of one word, LM, L*
 --   Extension, Center                  Definition 3, the infinitely extendable prefixes of L
@@ -7,15 +7,17 @@
 --   vector, together, Product          Definition 5, the homogeneous product
 --   idles, Shared                      S_p
 --   Compatible, SystemValid            Definition 6
+--   Synchronized                       the words that keep our rules for blocks and links, S_R* for every resource and message R
+--   Dependent, DependentValid          the product met with S_p* and with these; Definition 7
 use Prim.Native.Nat.{ℕ, zero, suc, _+_, _*_, _-_, _≤_, _<_, _^_}
 use mathlib.Core.Path.{_≡_}
 use mathlib.Core.Bool.{Bool, true, false}
 use mathlib.Core.List.{List, [], _∷_, _++_}
-use lib.ListN.{length, replicate}
+use lib.ListN.{length, take, getD, replicate}
 use Rattle.paper.specs.declared.Room.{Room}
 use Rattle.paper.specs.declared.Job.{Job}
 use Rattle.paper.specs.Room.{job}
-use Rattle.paper.specs.Past.{bit}
+use Rattle.paper.specs.Past.{bit, BlockRule, LinkRule}
 
 -- ---- 3.1 Words and languages
 
@@ -127,3 +129,19 @@ pub record Compatible (room : Room) (l : List ℕ) : Type 0 where
 -- Definition 6: a time-valid behaviour of the system on p engines
 abbrev pub SystemValid : Room → Language ℕ
 SystemValid room = Center (Compatible room)
+
+-- ---- 4.1 Jobs that depend on each other
+
+-- 004 leaves the protocol of a resource and of a message open, and traces its state by a virtual job, which it erases at the end. Here the
+-- state is the done counts, which the word itself tells: every slot keeps the block rule and the link rule after the slots before it
+pub record Synchronized (room : Room) (l : List ℕ) : Type 0 where
+  pub block : (t : ℕ) → t < length l → BlockRule room (take t l) (getD l t 0)
+  pub link : (t : ℕ) → t < length l → LinkRule room (take t l) (getD l t 0)
+
+-- the product of the jobs' languages, met with S_p* and with these
+abbrev pub Dependent : Room → Language ℕ
+Dependent room l = Compatible room l × Synchronized room l
+
+-- Definition 7: a time-valid behaviour of the system on p engines with its resources and messages
+abbrev pub DependentValid : Room → Language ℕ
+DependentValid room = Center (λ l. SystemValid room l × Synchronized room l)

@@ -8,3 +8,4 @@ pub mod Reply
 pub mod Languages
 pub mod Answer
 pub mod Rows
+pub mod Means

@@ -1,12 +1,13 @@
 -- The plan (01, "Configurations and the plan").
 --   Greatest   the greatest mask that keeps a past in the centre
 --   Plan       prefix and cycle as one list, with the length of the prefix
-use Prim.Native.Nat.{ℕ, _≤_, _<_}
+--   unrolled   the mask of each slot, where the cycle is repeated for ever
+use Prim.Native.Nat.{ℕ, _-_, _≤_, _<_}
 use mathlib.Core.List.{List, [], _∷_, _++_}
 use lib.ListN.{length, take, getD}
 use Rattle.paper.specs.declared.Room.{Room}
 use Rattle.paper.specs.Centre.{Centre}
-use Rattle.paper.specs.Configuration.{configuration}
+use Rattle.paper.specs.Configuration.{timePosition, configuration}
 use Rattle.laws.specs.Repeats.{FirstTwice}
 
 -- the mask, greatest as a number, that keeps the past l in the centre
@@ -18,3 +19,7 @@ pub record Greatest (room : Room) (l : List ℕ) (m : ℕ) : Type 0 where
 pub record Plan (room : Room) (R H : ℕ) (masks : List ℕ) (a : ℕ) : Type 0 where
   pub follows : (t : ℕ) → t < length masks → Greatest room (take t masks) (getD masks t 0)
   pub turns : FirstTwice (λ t. configuration room R H (take t masks)) a (length masks)
+
+-- prefix and cycle as one list, the first a masks the prefix: from slot a on the cycle is repeated for ever, as time positions are from R on
+unfoldable pub unrolled : List ℕ → ℕ → ℕ → ℕ
+unrolled masks a s = getD masks (timePosition a (length masks - a) s) 0
