@@ -1,5 +1,6 @@
 pub mod Units
 pub mod Beginnings
+pub mod Rings
 pub mod Clocks
 pub mod Steps
 pub mod Uniques
