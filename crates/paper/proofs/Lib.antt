@@ -28,3 +28,4 @@ pub mod Entries
 pub mod Grammar
 pub mod Reader
 pub mod Replies
+pub mod Contents
