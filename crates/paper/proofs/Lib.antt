@@ -1,5 +1,6 @@
 pub mod Units
 pub mod Beginnings
+pub mod Rings
 pub mod Clocks
 pub mod Steps
 pub mod Uniques
@@ -29,3 +30,4 @@ pub mod Grammar
 pub mod Reader
 pub mod Replies
 pub mod Means
+pub mod Contents

@@ -3,10 +3,11 @@
 --   first, load, deadline, period    r, C, D and T of job i
 --   GoodJob, GoodSection, GoodLink   the ranges of an entry
 --   awaited                          which instance of its sender a receiver's instance waits for
+--   Ring                             links that form a ring, of any length
 --   EnginesFit .. LinksFit           the ranges of a room, part by part
 --   Multiple, GreatestFirst, Clock   H and R
 --   Limits                           a room within all the ranges
-use Prim.Native.Nat.{ℕ, _≤_, _<_}
+use Prim.Native.Nat.{ℕ, _+_, _≤_, _<_}
 use mathlib.Core.Path.{_≡_}
 use mathlib.Core.Logic.{_≢_}
 use lib.ListN.{getD}
@@ -77,6 +78,16 @@ pub record GoodLink (room : Room) (k : Link) : Type 0 where
 -- the receiver's instance k waits for the sender's instance k
 abbrev pub awaited : Room → Link → ℕ → ℕ
 awaited room q k = k
+
+-- links that form a ring, where at t is the number of the one at place t: each one's receiver is the next one's sender, and after the last
+-- comes the first again
+pub record Ring (room : Room) : Type 0 where
+  pub size : ℕ
+  pub some : 1 ≤ size
+  pub at : ℕ → ℕ
+  pub known : (t : ℕ) → t < size → at t < room .links
+  pub joined : (t : ℕ) → t < size → link room (at t) .receiver ≡ link room (at (t + 1)) .sender
+  pub closes : at size ≡ at 0
 
 -- engines p: 1 to 8
 abbrev pub EnginesFit : Room → Type 0
