@@ -27,3 +27,5 @@ pub mod Entries
 pub mod Grammar
 pub mod Reader
 pub mod Replies
+pub mod Used
+pub mod UsedReplies
