@@ -1,5 +1,4 @@
 -- What a room text says of its room (01, "Room text"): every used entry; the others are read as zeros.
---   SameUsed                      rooms with the same used entries
 --   row-one, row-equal            equal rows have the same entries
 --   frames-room, used-frames      rooms with the same used entries are those with the same frames
 --   used-carried, used-render     they are carried together, and have the same text
@@ -22,21 +21,12 @@ use Rattle.paper.specs.declared.Room.{Room}
 use Rattle.paper.specs.declared.Job.{Job}
 use Rattle.paper.specs.declared.Section.{Section}
 use Rattle.paper.specs.declared.Link.{Link}
-use Rattle.paper.specs.Room.{job, section, link, noJob, noSection, noLink, Limits}
+use Rattle.paper.specs.Room.{job, section, link, noJob, noSection, noLink, Limits, SameUsed}
 use Rattle.paper.specs.Text.{line, jobFrame, sectionFrame, linkFrame, frames, ending, lines, render, Carried, GoodText, Read}
 use Rattle.paper.proofs.Texts.{render-frames}
 use Rattle.paper.proofs.Frames.{limits-carried, rows-same, frames-then, after-jobs, after-sections}
 
 -- ---- Rooms with the same used entries
-
-pub record SameUsed (room room′ : Room) : Type 0 where
-  pub engines : room .engines ≡ room′ .engines
-  pub jobs : room .jobs ≡ room′ .jobs
-  pub sections : room .sections ≡ room′ .sections
-  pub links : room .links ≡ room′ .links
-  pub job : (i : ℕ) → i < room .jobs → job room i ≡ job room′ i
-  pub section : (q : ℕ) → q < room .sections → section room q ≡ section room′ q
-  pub link : (q : ℕ) → q < room .links → link room q ≡ link room′ q
 
 module _ {A : Type 0} (f g : ℕ → A) (n m : ℕ) where
   -- equal rows have the same length and entries

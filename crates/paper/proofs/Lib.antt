@@ -31,3 +31,5 @@ pub mod Reader
 pub mod Replies
 pub mod Means
 pub mod Contents
+pub mod Used
+pub mod UsedReplies

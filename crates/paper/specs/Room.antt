@@ -7,6 +7,7 @@
 --   EnginesFit .. LinksFit           the ranges of a room, part by part
 --   Multiple, GreatestFirst, Clock   H and R
 --   Limits                           a room within all the ranges
+--   SameUsed                         rooms with the same numbers and the same used entries
 use Prim.Native.Nat.{ℕ, _+_, _≤_, _<_}
 use mathlib.Core.Path.{_≡_}
 use mathlib.Core.Logic.{_≢_}
@@ -136,3 +137,15 @@ pub record Limits (room : Room) : Type 0 where
   pub H : ℕ
   pub multiple : Multiple room (room .jobs) H
   pub short : H ≤ 4096
+
+-- ---- Used entries
+
+-- rooms that differ only in entries beyond a stated number
+pub record SameUsed (room room′ : Room) : Type 0 where
+  pub engines : room .engines ≡ room′ .engines
+  pub jobs : room .jobs ≡ room′ .jobs
+  pub sections : room .sections ≡ room′ .sections
+  pub links : room .links ≡ room′ .links
+  pub job : (i : ℕ) → i < room .jobs → job room i ≡ job room′ i
+  pub section : (q : ℕ) → q < room .sections → section room q ≡ section room′ q
+  pub link : (q : ℕ) → q < room .links → link room q ≡ link room′ q

@@ -10,11 +10,11 @@ use lib.Seq.{take-at}
 use Rattle.paper.specs.declared.Room.{Room}
 use Rattle.paper.specs.declared.Reply.{Reply}
 use Rattle.paper.specs.declared.Reply.the-variants as say
-use Rattle.paper.specs.Room.{Limits}
+use Rattle.paper.specs.Room.{Limits, SameUsed}
 use Rattle.paper.specs.Text.{render}
 use Rattle.paper.specs.Reply.{ReadReply, WriteReply, written}
 use Rattle.paper.proofs.Frames.{limits-carried}
-use Rattle.paper.proofs.Entries.{SameUsed, padded, padded-same, padded-reads, read-writes}
+use Rattle.paper.proofs.Entries.{padded, padded-same, padded-reads, read-writes}
 use Rattle.paper.proofs.Replies.{read-reply-one, write-reply-one}
 
 pub record ReadBack (room : Room) (r : Reply) (room′ : Room) : Type 0 where
