@@ -33,3 +33,4 @@ pub mod Means
 pub mod Contents
 pub mod Used
 pub mod UsedReplies
+pub mod Samples

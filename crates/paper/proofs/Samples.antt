@@ -1,0 +1,73 @@
+-- Numbers of the paper at samples, so that a definition with another number is refused in its own crate.
+--   table-holds                    a table of 15 numbers holds 3 configurations, one of 16 holds 4
+--   longest-table, longer-table    a table of 4,194,304 numbers is not too long, one of 4,194,305 is
+--   table-kept, table-cleared      the table is as found after TABLE, and all zeros after ROOM
+--   reply-numbers                  the five numbers of every reply
+--   answer-sample                  the answer to the first room worked by hand, byte for byte
+use Prim.Native.Nat.{ℕ}
+use native.Mathlib.Omega.{arith}
+use mathlib.Core.Path.{_≡_, refl}
+use mathlib.Core.List.{List, [], _∷_, map, flatMap, flatten}
+use lib.ListN.{length, replicate}
+use Rattle.paper.specs.declared.Room.{Room}
+use Rattle.paper.specs.declared.Reply.{Reply}
+use Rattle.paper.specs.declared.Reply.the-variants as say
+use Rattle.paper.specs.Room.{Limits}
+use Rattle.paper.specs.Reply.{numbers, W, TooLong, PlanReply}
+use Rattle.paper.specs.Text.{digit, twoDigits, line}
+use Rattle.paper.specs.Answer.{twoBytes, fourBytes, answerFrame, slotFrame, answer}
+
+-- ---- The table
+
+table-holds : (W (replicate 15 0) ≡ 3) × (W (replicate 16 0) ≡ 4)
+table-holds = (refl, refl)
+
+module _ (room : Room) (table₀ : List ℕ) where
+  longest-table : length table₀ ≡ 4194304 → ¬ TooLong room table₀
+  longest-table e x = omega (arith, x .long)
+
+  longer-table : Limits room → length table₀ ≡ 4194305 → TooLong room table₀
+  longer-table limits e = record { limits = limits; long = omega arith }
+
+  module _ (plan₀ : List ℕ) {table plan : List ℕ} where
+    table-kept : PlanReply room table₀ plan₀ say.Table table plan → table ≡ table₀
+    table-kept x = x .table-after
+
+    table-cleared : PlanReply room table₀ plan₀ say.Room table plan → table ≡ replicate (length table₀) 0
+    table-cleared x = x .table-after
+
+-- ---- The numbers of a reply
+
+-- code, count, place, prefix length and cycle length
+abbrev five : Reply → List ℕ
+five r = let N = numbers r in N .code ∷ N .count ∷ N .place ∷ N .prefix ∷ N .cycle ∷ []
+
+reply-numbers : (n i a c : ℕ)
+    → map five (say.Good n i a c ∷ say.None n ∷ say.Text i ∷ say.Engines ∷ say.Jobs ∷ say.Job i ∷ say.Section i ∷ say.Link i ∷ say.Long i ∷ say.Table ∷ say.Room
+    ∷ say.Short i ∷ say.Out n i ∷ [])
+    ≡ (0 ∷ n ∷ i ∷ a ∷ c ∷ [])
+    ∷ (1 ∷ n ∷ 0 ∷ 0 ∷ 0 ∷ [])
+    ∷ (2 ∷ 0 ∷ i ∷ 0 ∷ 0 ∷ [])
+    ∷ (3 ∷ 0 ∷ 0 ∷ 0 ∷ 0 ∷ [])
+    ∷ (4 ∷ 0 ∷ 0 ∷ 0 ∷ 0 ∷ [])
+    ∷ (5 ∷ 0 ∷ i ∷ 0 ∷ 0 ∷ [])
+    ∷ (6 ∷ 0 ∷ i ∷ 0 ∷ 0 ∷ [])
+    ∷ (7 ∷ 0 ∷ i ∷ 0 ∷ 0 ∷ [])
+    ∷ (8 ∷ 0 ∷ i ∷ 0 ∷ 0 ∷ [])
+    ∷ (9 ∷ 0 ∷ 0 ∷ 0 ∷ 0 ∷ [])
+    ∷ (10 ∷ 0 ∷ 0 ∷ 0 ∷ 0 ∷ [])
+    ∷ (11 ∷ 0 ∷ i ∷ 0 ∷ 0 ∷ [])
+    ∷ (12 ∷ n ∷ i ∷ 0 ∷ 0 ∷ [])
+    ∷ []
+reply-numbers n i a c = refl
+
+-- ---- The answer
+
+-- `f0`, code 0, count 4, prefix 0, cycle 2; `f1` with the masks 2 and 1; `ff`
+answer-sample : answer (record { code = 0; count = 4; place = 0; prefix = 0; cycle = 2 }) (2 ∷ 1 ∷ []) ≡
+    102 ∷ 48 ∷ 48 ∷ 48 ∷ 48 ∷ 48 ∷ 48 ∷ 48 ∷ 48 ∷ 48 ∷ 48 ∷ 52 ∷ 48 ∷ 48 ∷ 48 ∷ 48 ∷ 48 ∷ 48 ∷ 48 ∷ 48 ∷ 48 ∷ 48 ∷ 48 ∷ 48 ∷ 48 ∷ 48 ∷ 48 ∷ 50 ∷ 10 ∷
+    102 ∷ 49 ∷ 48 ∷ 48 ∷ 48 ∷ 50 ∷ 10 ∷
+    102 ∷ 49 ∷ 48 ∷ 48 ∷ 48 ∷ 49 ∷ 10 ∷
+    102 ∷ 102 ∷ 10 ∷ []
+unfolding answer answerFrame slotFrame fourBytes twoBytes line twoDigits digit flatMap flatten
+answer-sample = refl
