@@ -3,7 +3,7 @@
 --   begins-frames, frames-begin   a text's first lines, by frames
 --   begins-zero, begins-fewer     no line at all begins a good text; fewer lines do where more do
 --   bad-line-one                  a text has one first bad line
---   good-bad, good-begins         a good text has none: all its lines begin one
+--   good-begins                   all lines of a good text begin one
 --   NextLine, begins-next         one more line that begins some good text has its frame next among that text's frames
 --   good-whole                    a good text that goes on with no such line is at its end
 --   begins-near, bad-line-near    the first 648 bytes hold all lines of a good text, so the first 649 tell the first bad line of a longer text
@@ -75,9 +75,6 @@ bad-line-one {text} k k′ b d =
     first-failure-one (λ t. Begins text (t + 1))
     (b .here) (λ t h. begins-fewer (omega arith) (b .until))
     (d .here) (λ t h. begins-fewer (omega arith) (d .until))
-
-pub good-bad : {text : List ℕ} {k : ℕ} → GoodText text → ¬ FirstBadLine text k
-good-bad g b = b .bad g
 
 pub good-begins : {text : List ℕ} (g : GoodText text) (k : ℕ) → k ≤ length (lines (g .room)) → Begins text k
 good-begins g k h =

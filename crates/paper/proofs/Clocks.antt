@@ -1,17 +1,15 @@
 -- R and H of a room. A room within the limits has one clock, and it is short.
 --   multiple-one, greatest-first-one, clock-one   H, R and the clock are one
---   common-is-multiple                            every common multiple of the periods is a multiple of H
 --   greatest-first-exists, clock-exists           a room with jobs has an R, one within the limits a clock
 --   period-positive                               no period is 0
 --   clock-short                                   R is at most 255, H at most 4,096
-use Prim.Native.Nat.{ℕ, suc, _-_, _≤_, _<_, _%_}
+use Prim.Native.Nat.{ℕ, suc, _-_, _≤_, _<_}
 use native.Mathlib.Omega.{arith}
 use mathlib.Core.Path.{_≡_}
 use Rattle.paper.specs.declared.Room.{Room}
 use Rattle.paper.specs.Room.{first, period, Multiple, GreatestFirst, Clock, Limits}
-use Rattle.laws.specs.Multiples.{Common}
 use Rattle.laws.proofs.Greatest.{greatest-exists}
-use Rattle.laws.proofs.Multiples.{least-one, least-divides}
+use Rattle.laws.proofs.Multiples.{least-one}
 
 -- ---- One clock
 
@@ -24,9 +22,6 @@ module _ {room : Room} where
 
   pub clock-one : {R R′ H H′ : ℕ} → Clock room R H → Clock room R′ H′ → (R ≡ R′) × (H ≡ H′)
   clock-one x y = (greatest-first-one (x .greatest) (y .greatest), multiple-one room (x .multiple) (y .multiple))
-
-  pub common-is-multiple : {R H : ℕ} → Clock room R H → (g : ℕ) → Common (period room) (room .jobs) g → g % H ≡ 0
-  common-is-multiple x g c = least-divides (x .multiple) g c
 
 -- ---- There is one
 

@@ -6,7 +6,6 @@
 --   value-under, value-low, value-between, value-high, value-over
 --                                     it by ranges: below 0, 0 to 9, between 9 and a, a to f, above f
 --   value-digit, digit-value          the digits are exactly what has a value below 16
---   digit-one                         a digit has one value
 --   byte                              the byte that two digits stand for; 256 for what are not two digits
 --   byte-first-bad, byte-second-bad, byte-yes
 --                                     it by the values
@@ -95,9 +94,6 @@ digit-value b h = ⊎-elim under (λ (g : 0x30 ≤ b). ⊎-elim (low g) over (lt
 
     over : 0x3a ≤ b → digit (value b) ≡ b
     over g = ⊎-elim (λ (l : b < 0x61). absurd (omega (arith, value-between b g l))) high (lt-or-le b 0x61)
-
-pub digit-one : (c d : ℕ) → c < 16 → d < 16 → digit c ≡ digit d → c ≡ d
-digit-one c d g h e = sym (value-digit c g) ∙ ap value e ∙ value-digit d h
 
 -- ---- Two digits
 

@@ -6,8 +6,6 @@
 --   read-one                      a text gives one room
 --   padded, padded-same           a room's used entries and then zeros
 --   padded-reads                  which is what its text gives
---   read-good, good-reads         the good texts are those that read
---   written-reads                 reading a written text gives back every used entry
 --   read-writes                   writing what was read gives the same bytes
 use mathlib.Core.Path.{_≡_, refl, sym, ap, _∙_}
 use mathlib.Core.List.{List, [], _∷_, _++_, map, flatten, tail-eq-of-cons-eq}
@@ -21,10 +19,10 @@ use Rattle.paper.specs.declared.Room.{Room}
 use Rattle.paper.specs.declared.Job.{Job}
 use Rattle.paper.specs.declared.Section.{Section}
 use Rattle.paper.specs.declared.Link.{Link}
-use Rattle.paper.specs.Room.{job, section, link, noJob, noSection, noLink, Limits, SameUsed}
-use Rattle.paper.specs.Text.{line, jobFrame, sectionFrame, linkFrame, frames, ending, lines, render, Carried, GoodText, Read}
+use Rattle.paper.specs.Room.{job, section, link, noJob, noSection, noLink, SameUsed}
+use Rattle.paper.specs.Text.{line, jobFrame, sectionFrame, linkFrame, frames, ending, lines, render, Carried, Read}
 use Rattle.paper.proofs.Texts.{render-frames}
-use Rattle.paper.proofs.Frames.{limits-carried, rows-same, frames-then, after-jobs, after-sections}
+use Rattle.paper.proofs.Frames.{rows-same, frames-then, after-jobs, after-sections}
 
 -- ---- Rooms with the same used entries
 
@@ -170,16 +168,6 @@ padded-reads room c =
       section = pad-same noSection 32 _ _ _ _ refl (s .section);
       link = pad-same noLink 16 _ _ _ _ refl (s .link);
     }
-
-pub read-good : {text : List ℕ} {room : Room} → Read text room → GoodText text
-read-good {room = room} r = record { room = room; carried = r .carried; same = r .same }
-
-pub good-reads : {text : List ℕ} (g : GoodText text) → Read text (padded (g .room))
-good-reads g = rw (g .same) (padded-reads (g .room) (g .carried))
-
--- reading a written text gives back every used entry
-pub written-reads : (room room′ : Room) → Limits room → Read (render room) room′ → SameUsed room room′
-written-reads room room′ l r = frames-room room room′ (render-frames room room′ (limits-carried room l) (r .carried) (r .same))
 
 -- writing what was read gives the same bytes
 pub read-writes : {text : List ℕ} {room : Room} → Read text room → render room ≡ text

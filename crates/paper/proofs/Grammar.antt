@@ -6,12 +6,9 @@
 --   withEngines, withJob, withSection, withLink   a room of engines alone; a room with one more entry, the last of its kind
 --   frames-engines, frames-job, frames-section, frames-link
 --                                                 its frames
---   upTo                                          the first entries of a room
---   text-engines, text-job, text-section, text-link
---                                                 their text, one entry more
 use mathlib.Core.Path.{_≡_, refl, sym, ap, _∙_, subst}
 use mathlib.Core.Logic.{⊎-elim}
-use mathlib.Core.List.{List, [], _∷_, _++_, flatMap, append-assoc, append-nil, head-eq-of-cons-eq, tail-eq-of-cons-eq}
+use mathlib.Core.List.{List, [], _∷_, _++_, append-assoc, append-nil, head-eq-of-cons-eq, tail-eq-of-cons-eq}
 use Prim.Native.Nat.{ℕ, suc, _+_, _-_, _<_}
 use native.Mathlib.Omega.{arith}
 use lib.ListN.{length, getD, set, replicate, length-append, length-replicate, List·getD-append}
@@ -23,8 +20,8 @@ use Rattle.paper.specs.declared.Job.{Job}
 use Rattle.paper.specs.declared.Section.{Section}
 use Rattle.paper.specs.declared.Link.{Link}
 use Rattle.paper.specs.Room.{job, section, link, noJob, noSection, noLink}
-use Rattle.paper.specs.Text.{line, engineFrame, jobFrame, sectionFrame, linkFrame, frames, Carried}
-use Rattle.paper.proofs.Texts.{allFrames, text-more}
+use Rattle.paper.specs.Text.{engineFrame, jobFrame, sectionFrame, linkFrame, frames, Carried}
+use Rattle.paper.proofs.Texts.{allFrames}
 use Rattle.paper.proofs.Frames.{kind, ff-no-frame, Longer, rows-meet, row-empty, jobFrames, sectionFrames, linkFrames, frames-then}
 use Rattle.paper.proofs.Frames.{after-jobs, after-sections}
 use Rattle.paper.proofs.Entries.{pad}
@@ -202,51 +199,3 @@ module _ (room : Room) where
   frames-link k h =
       ap (blocks room (jobFrames room) (sectionFrames room)) (row-set (room .link) noLink k (room .links) linkFrame h)
       ∙ last-link (engineFrame room ∷ []) (jobFrames room) (sectionFrames room) (linkFrames room) (linkFrame k)
-
--- ---- The entries one after another, as they are written
-
--- the first entries of a room
-abbrev pub upTo : Room → ℕ → ℕ → ℕ → Room
-upTo room i j k = record {
-  engines = room .engines;
-  jobs = i;
-  sections = j;
-  links = k;
-  job = room .job;
-  section = room .section;
-  link = room .link;
-}
-
-module _ (room : Room) where
-  pub text-engines : flatMap line (frames (upTo room 0 0 0)) ≡ line (engineFrame room)
-  unfolding frames row flatMap
-  text-engines = append-nil (line (engineFrame room))
-
-  pub text-job : (i : ℕ) → flatMap line (frames (upTo room (i + 1) 0 0)) ≡ flatMap line (frames (upTo room i 0 0)) ++ line (jobFrame (job room i))
-  unfolding frames beginning
-  text-job i =
-      let r = upTo room i 0 0 in
-      let f = jobFrame (job room i) in
-      ap (λ (m : List (List ℕ)). flatMap line (blocks room m (sectionFrames r) (linkFrames r))) (beginning-more (λ i. jobFrame (job room i)) i)
-      ∙ ap (flatMap line) (last-job (engineFrame room ∷ []) (jobFrames r) (sectionFrames r) (linkFrames r) f (row-none _ 0 refl) (row-none _ 0 refl))
-      ∙ text-more (frames r) f
-
-  pub text-section : (i j : ℕ)
-      → flatMap line (frames (upTo room i (j + 1) 0)) ≡ flatMap line (frames (upTo room i j 0)) ++ line (sectionFrame (section room j))
-  unfolding frames beginning
-  text-section i j =
-      let r = upTo room i j 0 in
-      let f = sectionFrame (section room j) in
-      ap (λ (m : List (List ℕ)). flatMap line (blocks room (jobFrames r) m (linkFrames r))) (beginning-more (λ j. sectionFrame (section room j)) j)
-      ∙ ap (flatMap line) (last-section (engineFrame room ∷ []) (jobFrames r) (sectionFrames r) (linkFrames r) f (row-none _ 0 refl))
-      ∙ text-more (frames r) f
-
-  pub text-link : (i j k : ℕ)
-      → flatMap line (frames (upTo room i j (k + 1))) ≡ flatMap line (frames (upTo room i j k)) ++ line (linkFrame (link room k))
-  unfolding frames beginning
-  text-link i j k =
-      let r = upTo room i j k in
-      let f = linkFrame (link room k) in
-      ap (λ (m : List (List ℕ)). flatMap line (blocks room (jobFrames r) (sectionFrames r) m)) (beginning-more (λ k. linkFrame (link room k)) k)
-      ∙ ap (flatMap line) (last-link (engineFrame room ∷ []) (jobFrames r) (sectionFrames r) (linkFrames r) f)
-      ∙ text-more (frames r) f

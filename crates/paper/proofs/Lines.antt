@@ -6,7 +6,7 @@
 --   line-none, line-more              lines from the front
 --   line-length                       two digits a byte, and 0a
 --   line-open                         no 0a before the last byte of a line
---   line-code, line-one               equal texts that begin with lines have one frame there, and the same after it
+--   line-code                         equal texts that begin with lines have one frame there, and the same after it
 --   ending-line                       `ff` is the line of the frame ff
 --   byteAt, byteAt-beyond             the byte whose digits stand at a place; 256 where no two digits stand, as beyond the end
 --   Line                              a line of n bytes stands at a place
@@ -83,9 +83,6 @@ line-code (x ∷ f) (y ∷ g) a b p q e =
     let r = line-code f g a b (bytes-rest x f p) (bytes-rest y g q) t in
     let h = twoDigits-one x y (bytes-first x f p) (bytes-first y g q) s in
     (λ i. h i ∷ r .0 i, r .1)
-
-pub line-one : (f g : List ℕ) → Bytes f → Bytes g → line f ≡ line g → f ≡ g
-line-one f g p q e = line-code f g [] [] p q (ap (λ (l : List ℕ). l ++ []) e) .0
 
 pub ending-line : ending ≡ line (0xff ∷ [])
 unfolding line flatMap twoDigits digit

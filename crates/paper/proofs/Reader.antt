@@ -12,8 +12,7 @@
 --   bad-next                                 no line that may follow: that one is the first bad line
 --   ended-begins, ended-last, bad-after      `ff` and something after it: the line after `ff` is
 --   bad-first                                no first line: line 0 is
---   ReadTo, begins-read-to, read-to-begins   the lines that begin some good text are none, those of a room, or those and `ff`
---   follows-begins                           with a line that may follow, the lines begin some good text
+--   ReadTo, begins-read-to                   the lines that begin some good text are none, those of a room, or those and `ff`
 use mathlib.Core.Path.{_≡_, refl, sym, ap, _∙_, subst}
 use mathlib.Core.Logic.{⊎-elim}
 use mathlib.Core.List.{List, [], _∷_, _++_, flatMap, append-assoc, append-nil, head-eq-of-cons-eq, List·Memᴰ·not-nil}
@@ -278,11 +277,3 @@ begins-read-to text (suc k) b = rw add-one at (more (rw (← add-one) at b) (beg
     more b (nothing e) = lines-of 5 (withEngines (byteAt text 2)) (so-far-first (begins-first (rw e at b))) (omega arith)
     more b (lines-of at room s e) = read-to-next at room s e (begins-follows s (rw e at b))
     more b (ended at room s d e) = absurd (ended-last s d (rw e at b))
-
-pub read-to-begins : {text : List ℕ} {k : ℕ} → ReadTo text k → Begins text k
-read-to-begins {text} (nothing e) = subst (Begins text) (sym e) (begins-zero text)
-read-to-begins {text} (lines-of at room s e) = subst (Begins text) (sym e) (so-far-begins s)
-read-to-begins {text} (ended at room s d e) = subst (Begins text) (sym e) (ended-begins s d)
-
-pub follows-begins : {text : List ℕ} {at : ℕ} {room : Room} → SoFar text at room → Follows text at room → Begins text (lineAfter room + 1)
-follows-begins {at = at} {room = room} s f = read-to-begins (read-to-next at room s refl f)

@@ -5,7 +5,6 @@
 --   units-unborn                      one that starts at the end of the past or later has run nothing
 --   units-grow                        a unit once run stays
 --   units-in                          within its period one more mask counts
---   take-units-over, take-units-grow  units of a beginning
 --   first-start, start-more, start-mono, due-is   where instances start and end
 --   current-begun, current-one        a job with a current instance has begun, and has just one
 --   current-is, current-instance      from r on there is one, and `instance` is its number
@@ -20,8 +19,8 @@ use native.Mathlib.Nat.{mod-lt, add-zero, zero-add, mul-le-mul-right, div-add-mo
 use mathlib.Core.Path.{_≡_, refl, sym, ap, _∙_}
 use mathlib.Core.Logic.{_⊎_, inl, inr, ⊎-elim}
 use mathlib.Core.List.{List, [], _∷_, _++_}
-use lib.ListN.{length, take, drop, getD, length-drop, take-append-drop, drop-of-length-le}
-use lib.Seq.{take-append-le, drop-append-le, take-all, take-nil, take-suc, take-length, length-take-le}
+use lib.ListN.{length, take, drop, getD, length-drop, drop-of-length-le}
+use lib.Seq.{take-append-le, drop-append-le, take-all, take-nil, take-suc, take-length}
 use Rattle.paper.specs.declared.Room.{Room}
 use Rattle.paper.specs.Room.{first, load, deadline, period}
 use Rattle.paper.specs.Past.{bit, start, due, Current, runs, units, instance, done, Slot, Admissible}
@@ -80,15 +79,6 @@ units-in room l i k m h g =
     ∙ ap (runs i) (drop-append-le (start room i k) l (m ∷ []) h)
     ∙ runs-append i (drop (start room i k) l) (m ∷ [])
     ∙ rw (runs-one i m, units-all room l i k (omega arith))
-
-module _ (room : Room) (l : List ℕ) (t i k : ℕ) where
-  pub take-units-over : start room i k + period room i ≤ t → t ≤ length l → units room (take t l) i k ≡ units room l i k
-  take-units-over h g =
-      let e = length-take-le t l g in
-      rw take-append-drop at (sym (units-over room (take t l) i k (drop t l) (omega arith)))
-
-  pub take-units-grow : units room (take t l) i k ≤ units room l i k
-  take-units-grow = rw take-append-drop at (units-grow room (take t l) i k (drop t l))
 
 -- ---- Starts and deadlines
 

@@ -31,7 +31,7 @@ module _ (masks : List ℕ) (a : ℕ) (turns : a < length masks) where
 
   pub unrolled-prefix : (t : ℕ) → t < a → unrolled masks a t ≡ getD masks t 0
   unfolding unrolled
-  unrolled-prefix t h = ap (λ (j : ℕ). getD masks j 0) (position-early a L t h)
+  unrolled-prefix t h = ap (λ (j : ℕ). getD masks j 0) (position-early a _ t h)
 
   pub unrolled-cycle : (n t : ℕ) → t < L → unrolled masks a (a + n * L + t) ≡ getD masks (a + t) 0
   unfolding unrolled
