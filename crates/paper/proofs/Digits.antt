@@ -2,7 +2,6 @@
 -- value 16, and two that are not both digits are read as 256.
 --   digit-low, digit-high             the digits 0 to 9, and a to f
 --   digit-least                       no digit is below 30, so none is 0a
---   value                             the value of a digit; 16 for what is none
 --   value-under, value-low, value-between, value-high, value-over
 --                                     it by ranges: below 0, 0 to 9, between 9 and a, a to f, above f
 --   value-digit, digit-value          the digits are exactly what has a value below 16
@@ -23,6 +22,7 @@ use lib.ListN.{length}
 use Rattle.laws.specs.Lists.{_∈_}
 use Rattle.laws.proofs.Tests.{lt-or-le, pick-lt, pick-ge}
 use Rattle.paper.specs.Text.{digit, twoDigits}
+unfoldable pub use Rattle.paper.specs.Reading.{value, byte}
 
 -- ---- One digit
 
@@ -42,8 +42,6 @@ digit-least d = ⊎-elim
 
 -- ---- Its value
 
-unfoldable pub value : ℕ → ℕ
-value b = cond (ltb b 0x30) 16 (cond (ltb b 0x3a) (b - 0x30) (cond (ltb b 0x61) 16 (cond (ltb b 0x67) (b - 0x57) 16)))
 
 module _ (b : ℕ) where
   pub value-under : b < 0x30 → value b ≡ 16
@@ -97,8 +95,7 @@ digit-value b h = ⊎-elim under (λ (g : 0x30 ≤ b). ⊎-elim (low g) over (lt
 
 -- ---- Two digits
 
-unfoldable pub byte : ℕ → ℕ → ℕ
-byte a b = cond (ltb (value a) 16) (cond (ltb (value b) 16) (value a * 16 + value b) 256) 256
+
 
 module _ (a b : ℕ) where
   pub byte-first-bad : 16 ≤ value a → byte a b ≡ 256

@@ -20,7 +20,7 @@ use Rattle.paper.specs.declared.Job.{Job}
 use Rattle.paper.specs.declared.Section.{Section}
 use Rattle.paper.specs.declared.Link.{Link}
 use Rattle.paper.specs.Room.{job, section, link, noJob, noSection, noLink, SameUsed}
-use Rattle.paper.specs.Text.{line, jobFrame, sectionFrame, linkFrame, frames, ending, lines, render, Carried, Read}
+use Rattle.paper.specs.Text.{line, jobFrame, sectionFrame, linkFrame, frames, ending, lines, render, Carried, Read, pad}
 use Rattle.paper.proofs.Texts.{render-frames}
 use Rattle.paper.proofs.Frames.{rows-same, frames-then, after-jobs, after-sections}
 
@@ -104,14 +104,10 @@ module _ (room room′ : Room) (s : SameUsed room room′) where
 -- ---- What is read
 
 module _ {A : Type 0} (d : A) (most : ℕ) where
-  -- n entries, and then d, up to most
-  abbrev pub pad : (ℕ → A) → ℕ → List A
-  pad f n = row f 0 n ++ replicate (most - n) d
-
-  pub pad-same : (f g : ℕ → A) (n m : ℕ) → n ≡ m → ((i : ℕ) → i < n → f i ≡ g i) → pad f n ≡ pad g m
+  pub pad-same : (f g : ℕ → A) (n m : ℕ) → n ≡ m → ((i : ℕ) → i < n → f i ≡ g i) → pad d most f n ≡ pad d most g m
   pad-same f g n m e h = λ i. row-equal f g n m e h i ++ replicate (most - e i) d
 
-  pub pad-at : (f : ℕ → A) (n i : ℕ) → i < n → getD (pad f n) i d ≡ f i
+  pub pad-at : (f : ℕ → A) (n i : ℕ) → i < n → getD (pad d most f n) i d ≡ f i
   unfolding beginning
   pad-at f n i h = List·getD-append (beginning f n) (replicate (most - n) d) d i (omega (arith, beginning-length f n)) ∙ beginning-at f n d i h
 

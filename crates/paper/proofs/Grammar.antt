@@ -20,11 +20,10 @@ use Rattle.paper.specs.declared.Job.{Job}
 use Rattle.paper.specs.declared.Section.{Section}
 use Rattle.paper.specs.declared.Link.{Link}
 use Rattle.paper.specs.Room.{job, section, link, noJob, noSection, noLink}
-use Rattle.paper.specs.Text.{engineFrame, jobFrame, sectionFrame, linkFrame, frames, Carried}
+use Rattle.paper.specs.Text.{engineFrame, jobFrame, sectionFrame, linkFrame, frames, Carried, pad}
 use Rattle.paper.proofs.Texts.{allFrames}
 use Rattle.paper.proofs.Frames.{kind, ff-no-frame, Longer, rows-meet, row-empty, jobFrames, sectionFrames, linkFrames, frames-then}
 use Rattle.paper.proofs.Frames.{after-jobs, after-sections}
-use Rattle.paper.proofs.Entries.{pad}
 
 -- ---- Which frame may follow those of a room
 

@@ -33,7 +33,9 @@ use Rattle.laws.specs.Lists.{_∈_, row, beginning}
 use Rattle.laws.proofs.Tests.{lt-or-le}
 use Rattle.laws.proofs.Lists.{at-in, beginning-length, in-beginning-at}
 use Rattle.paper.specs.Text.{digit, twoDigits, line, ending}
-use Rattle.paper.proofs.Digits.{digit-least, value-under, byte, byte-second-bad, byte-digits, digits-byte}
+unfoldable pub use Rattle.paper.specs.Reading.{byteAt}
+pub use Rattle.paper.specs.Reading.{Line, Ending}
+use Rattle.paper.proofs.Digits.{digit-least, value-under, byte-second-bad, byte-digits, digits-byte}
 use Rattle.paper.proofs.Digits.{twoDigits-length, twoDigits-one, twoDigits-open}
 
 -- ---- Frames of bytes
@@ -90,17 +92,10 @@ ending-line = refl
 
 -- ---- A line by its place
 
-abbrev pub byteAt : List ℕ → ℕ → ℕ
-byteAt text at = byte (getD text at 0) (getD text (at + 1) 0)
-
 pub byteAt-beyond : (text : List ℕ) (at : ℕ) → length text ≤ at + 1 → byteAt text at ≡ 256
 byteAt-beyond text at h =
     let e = List·getD-eq-default text 0 h in
     byte-second-bad (getD text at 0) (getD text (at + 1) 0) (omega (arith, value-under (getD text (at + 1) 0) (omega arith)))
-
-pub record Line (text : List ℕ) (at n : ℕ) : Type 0 where
-  pub bytes : (i : ℕ) → i < n → byteAt text (at + 2 * i) < 256
-  pub close : getD text (at + 2 * n) 0 ≡ 0x0a
 
 pub line-at-none : (text : List ℕ) (at : ℕ) → getD text at 0 ≡ 0x0a → Line text at 0
 line-at-none text at e = record { bytes = λ i h. absurd (omega arith); close = rw add-zero e }
@@ -200,11 +195,6 @@ module _ (text frame rest : List ℕ) (at : ℕ) (bytes : Bytes frame) (goes : d
   there-kind h = rw add-zero at (there-byte 0 h)
 
 -- ---- The line `ff` by its place
-
-pub record Ending (text : List ℕ) (at : ℕ) : Type 0 where
-  pub first : getD text at 0 ≡ 0x66
-  pub second : getD text (at + 1) 0 ≡ 0x66
-  pub close : getD text (at + 2) 0 ≡ 0x0a
 
 module _ (text : List ℕ) (at : ℕ) where
   pub ending-there : Ending text at → drop at text ≡ ending ++ drop (at + 3) text

@@ -2,10 +2,10 @@
 -- since two replies that meet a relation are equal, it is the one given, and each code is given exactly when.
 --   plan-decides, judge-decides         a code of a decided room comes of a decided room
 --   decided-none, decided-good, decided-short   the three replies to planning a decided room
---   PlanCase, plan-case                 which of them is given
---   plan-schedule                       what stands in the buffer on GOOD
+--   PlanCase, plan-case                 which of them is given, and on GOOD what stands in the buffer
 --   plan-means, plan-means-004          demand 2: by endless schedules, and by document 004's behaviours
 --   decided-accepted, decided-out       the two replies to judging a past of a decided room
+--   JudgeCase, judge-case               which of them is given
 --   judge-means, judge-means-004        demand 3, likewise
 use Prim.Native.Nat.{ℕ, _+_, _-_, _≤_, _<_}
 use native.Mathlib.Omega.{arith}

@@ -33,8 +33,8 @@ use Rattle.laws.specs.Forever as walks
 use Rattle.laws.proofs.Lists.{from-back, length-more, length-times, beginning-length}
 use Rattle.laws.proofs.Repeats.{first-along}
 use Rattle.laws.proofs.Forever.{greedy-walk, greedy-append, greedy-parts, plan-forever, feasible-plan, feasible-iff-endless, continues}
-use Rattle.paper.proofs.Steps.{step, begin}
-use Rattle.paper.proofs.Tests.{test}
+use Rattle.paper.specs.Steps.{step, begin}
+use Rattle.paper.specs.Tests.{test}
 use Rattle.paper.proofs.Beginnings.{beginning-admissible, take-admissible}
 use Rattle.paper.proofs.Clocks.{clock-exists}
 use Rattle.paper.proofs.Uniques.{counted-one}

@@ -28,26 +28,19 @@ use Rattle.paper.specs.declared.Job.{Job}
 use Rattle.paper.specs.declared.Section.{Section}
 use Rattle.paper.specs.declared.Link.{Link}
 use Rattle.paper.specs.Room.{job, section, link, noJob, noSection, noLink}
-use Rattle.paper.specs.Text.{line, engineFrame, jobFrame, sectionFrame, linkFrame, frames, ending, render}
+use Rattle.paper.specs.Text.{line, engineFrame, jobFrame, sectionFrame, linkFrame, frames, ending, render, pad}
 use Rattle.paper.specs.Text.{Carried, GoodText, Begins, FirstBadLine, Read}
 use Rattle.paper.proofs.Lines.{Bytes, line-length, ending-line, byteAt, Line, line-within, frameAt, frameAt-length, frameAt-kind, frameAt-bytes}
 use Rattle.paper.proofs.Lines.{line-there, there-kind, there-line, Ending, ending-there, there-ending}
 use Rattle.paper.proofs.Texts.{EachBytes, text-more, allFrames, allFrames-bytes, all-length, render-is, render-parts, frames-length, lines-length}
 use Rattle.paper.proofs.BadLines.{frames-begin, begins-zero, begins-fewer, begins-next, good-whole}
 use Rattle.paper.proofs.Frames.{ff-no-frame, frames-then}
-use Rattle.paper.proofs.Entries.{pad}
+unfoldable pub use Rattle.paper.specs.Reading.{FirstLine, lineAfter}
+pub use Rattle.paper.specs.Reading.{SoFar, Follows, job-follows, section-follows, link-follows, end-follows}
 use Rattle.paper.proofs.Grammar.{Next, a-job, a-section, a-link, the-end, next-frame, end-last, pad-length, pad-set}
 use Rattle.paper.proofs.Grammar.{withEngines, withJob, withSection, withLink, frames-engines, frames-job, frames-section, frames-link}
 
 -- ---- What was read so far
-
-pub record SoFar (text : List ℕ) (at : ℕ) (room : Room) : Type 0 where
-  pub carried : Carried room
-  pub job : room .job ≡ pad noJob 16 (job room) (room .jobs)
-  pub section : room .section ≡ pad noSection 32 (section room) (room .sections)
-  pub link : room .link ≡ pad noLink 16 (link room) (room .links)
-  pub within : at ≤ length text
-  pub same : take at text ≡ flatMap line (frames room)
 
 -- the entries whose lines stand at a place
 abbrev pub jobAt : List ℕ → ℕ → Job
@@ -103,9 +96,6 @@ module _ (text : List ℕ) (at n : ℕ) (fs : List (List ℕ)) (f : List ℕ) (r
 none-bytes : EachBytes []
 none-bytes f p = absurd (List·Memᴰ·not-nil p)
 
-abbrev pub FirstLine : List ℕ → Type 0
-FirstLine text = (byteAt text 0 ≡ 0xa0) × Line text 0 2
-
 pub so-far-first : {text : List ℕ} → FirstLine text → SoFar text 5 (withEngines (byteAt text 2))
 unfolding row flatMap
 so-far-first {text} f =
@@ -141,16 +131,6 @@ module _ {text : List ℕ} {at : ℕ} {room : Room} (s : SoFar text at room) whe
       (s .job) (s .section) (pad-set (room .link) noLink q (room .links) 16 few (s .link))
 
 -- ---- Which line may follow
-
-pub data Follows (text : List ℕ) (at : ℕ) (room : Room) : Type 0 where
-  job-follows : room .sections ≡ 0 → room .links ≡ 0 → room .jobs < 16 → byteAt text at ≡ 0xa1 → Line text at 5 → Follows text at room
-  section-follows : room .links ≡ 0 → room .sections < 32 → byteAt text at ≡ 0xa2 → Line text at 5 → Follows text at room
-  link-follows : room .links < 16 → byteAt text at ≡ 0xa3 → Line text at 3 → Follows text at room
-  end-follows : Ending text at → Follows text at room
-
--- the number of the line after those of a room
-abbrev pub lineAfter : Room → ℕ
-lineAfter room = 1 + room .jobs + room .sections + room .links
 
 -- the first line
 pub begins-first : {text : List ℕ} → Begins text 1 → FirstLine text

@@ -37,8 +37,9 @@ use Rattle.laws.proofs.Lists.{beginning-length}
 use Rattle.laws.proofs.Trails.{masks-length}
 use Rattle.laws.proofs.Check.{checked, row-plan}
 use Rattle.laws.proofs.Judge.{T-inside, T-lost, T-outside}
-use Rattle.paper.proofs.Steps.{step, begin}
-use Rattle.paper.proofs.Tests.{test, test-allowed}
+use Rattle.paper.specs.Steps.{step, begin}
+use Rattle.paper.specs.Tests.{test}
+use Rattle.paper.proofs.Tests.{test-allowed}
 use Rattle.paper.proofs.Pasts.{past-centre, past-outside}
 use Rattle.paper.proofs.Certificates.{certified-count}
 use Rattle.paper.proofs.Plans.{plan-of}

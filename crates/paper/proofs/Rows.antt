@@ -11,8 +11,8 @@ use Rattle.laws.specs.Tests.{both, asks, all}
 use Rattle.laws.specs.Trails.{trail, trailMasks, turns?}
 use Rattle.laws.specs.Check.{find, onward?, reached?, leads?, steps?, row?, good?}
 use Rattle.laws.specs.Judge.{walk?, found?, living?, inside?, lost?, outside?}
-use Rattle.paper.proofs.Steps.{age, counted, moved, step, begin}
-use Rattle.paper.proofs.Tests.{engineTest, mayTest, mustTest, activeTest, jobTest, busyTest, blockTest, linkTest, test}
+use Rattle.paper.specs.Steps.{age, counted, moved, step, begin}
+use Rattle.paper.specs.Tests.{engineTest, mayTest, mustTest, activeTest, jobTest, busyTest, blockTest, linkTest, test}
 use Rattle.paper.proofs.Searches.{least, add, visit, explore, lead, survivors, mark, search}
 use Rattle.paper.proofs.Limits.{jobFits, sectionFits, linkFits, boundTest, commonTest, R, H, clockTest, limitsTest}
 use Rattle.paper.proofs.RowTests.{alike, same, replyTest, certificate, roomTest, goodTest, noneTest, acceptedTest, outTest}

@@ -3,7 +3,8 @@
 --   used-sym                                             the other way round
 --   first-used .. period-used, start-used .. done-used   the numbers of a job
 --   good-job-used, good-section-used, good-link-used     the ranges of an entry
---   engines-fit-used .. links-fit-used                   the ranges of a room, part by part
+--   engines-fit-used, jobs-fit-used, each-job-fits-used, sections-fit-used, links-fit-used
+--                                                        the ranges of a room, part by part
 --   multiple-used, clock-used, limits-used               H and R, and all the ranges
 --   current-used, engine-rule-used .. end-rule-used      the rules that look at no sender
 --   configuration-used                                   the configuration of a past

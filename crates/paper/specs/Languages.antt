@@ -1,10 +1,11 @@
 -- The languages of document 004 (Geniet and Largeteau), sections 3.1 to 3.3 and 4.1, in their order there.
 --   Shuffle                            Definition 1, the words of u ⧢ v
---   Just, Then, Star                   the language of one word, LM, L*
+--   Language, Just, Then, Star         a language, the language of one word, LM, L*
 --   Extension, Center                  Definition 3, the infinitely extendable prefixes of L
+--   Letter                             the words of one letter out of a set
 --   run, idle                          the letters a and • of one job
 --   Instance, Allocation, TimeValid    (a^C ⧢ •^(D-C)) •^(T-D); •^r (..)*; Definition 4
---   vector, together, Product          Definition 5, the homogeneous product
+--   value, vector, together, Product   Definition 5, the homogeneous product
 --   idles, Shared                      S_p
 --   Compatible, SystemValid            Definition 6
 --   Synchronized                       the words that keep our rules for blocks and links, S_R* for every resource and message R

@@ -3,7 +3,10 @@ pub mod Past
 pub mod Centre
 pub mod Configuration
 pub mod Plan
+pub mod Steps
+pub mod Tests
 pub mod Text
+pub mod Reading
 pub mod Reply
 pub mod Languages
 pub mod Answer

@@ -4,6 +4,7 @@
 --   Behaves        document 004 has a time-valid behaviour of the room
 --   Decides        the room is within the limits, and the table is not too long and holds all its configurations
 --   PlanFits       the room's plan fits into a buffer
+--   Singled        the endless schedule that the paper singles out
 --   PlanMeans      planning: each code is given exactly when, and what stands in the buffer
 --   ShortestLost   the shortest beginning that does not go on
 --   JudgeMeans     judging: each code is given exactly when, and the place

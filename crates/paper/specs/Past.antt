@@ -4,6 +4,7 @@
 --   Current                          instance k is the current one of job i at slot s
 --   runs, units                      the units that instance k of job i has run in a past
 --   instance, done                   the number of the current instance, and the done count
+--   Uses                             a job uses a block in a slot
 --   EngineRule, JobRule, BlockRule, LinkRule   the rules of the slot that follows the past l, for the mask m
 --   Slot                             all of them
 --   EndRule                          the rule at the end of a past

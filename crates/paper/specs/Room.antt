@@ -1,10 +1,11 @@
 -- A room (01, "A room").
+--   noJob, noSection, noLink         entries of zeros
 --   job, section, link               the entries of a room by number
 --   first, load, deadline, period    r, C, D and T of job i
 --   GoodJob, GoodSection, GoodLink   the ranges of an entry
 --   awaited                          which instance of its sender a receiver's instance waits for
 --   Ring                             links that form a ring, of any length
---   EnginesFit .. LinksFit           the ranges of a room, part by part
+--   EnginesFit, JobsFit, EachJobFits, SectionsFit, LinksFit   the ranges of a room, part by part
 --   Multiple, GreatestFirst, Clock   H and R
 --   Limits                           a room within all the ranges
 --   SameUsed                         rooms with the same numbers and the same used entries

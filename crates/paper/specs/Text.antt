@@ -1,5 +1,6 @@
 -- Room text (01, "Room text"). A text is a list of bytes.
 --   digit, twoDigits, line   lowercase hexadecimal, two digits a byte; a frame as a line
+--   engineFrame, jobFrame, sectionFrame, linkFrame   the frame of the engines and of an entry
 --   frames                   the frames of a room's used entries, in the order of their kinds
 --   ending                   the fixed line `ff`
 --   lines, render            the lines of a room's text, and the text
@@ -7,7 +8,7 @@
 --   GoodText                 a text that keeps the grammar
 --   Begins                   a text whose first k lines are those of some good text
 --   FirstBadLine             the first bad line, from 0
---   noRoom, Read             what the reader hands back
+--   noRoom, pad, Read        what the reader hands back
 use Prim.Native.Nat.{ℕ, _+_, _-_, _≤_, _<_, _/_, _%_}
 use mathlib.Core.Path.{_≡_}
 use mathlib.Core.Bool.{cond}
@@ -111,10 +112,14 @@ noRoom = record {
   link = replicate 16 noLink;
 }
 
+-- n entries, and then d, up to most
+abbrev pub pad : {A : Type 0} → A → ℕ → (ℕ → A) → ℕ → List A
+pad d most f n = row f 0 n ++ replicate (most - n) d
+
 -- the room whose used entries the text has; unused entries are read as zeros
 pub record Read (text : List ℕ) (room : Room) : Type 0 where
   pub carried : Carried room
   pub same : text ≡ render room
-  pub job : room .job ≡ row (job room) 0 (room .jobs) ++ replicate (16 - room .jobs) noJob
-  pub section : room .section ≡ row (section room) 0 (room .sections) ++ replicate (32 - room .sections) noSection
-  pub link : room .link ≡ row (link room) 0 (room .links) ++ replicate (16 - room .links) noLink
+  pub job : room .job ≡ pad noJob 16 (job room) (room .jobs)
+  pub section : room .section ≡ pad noSection 32 (section room) (room .sections)
+  pub link : room .link ≡ pad noLink 16 (link room) (room .links)
