@@ -42,7 +42,6 @@ digit-least d = ⊎-elim
 
 -- ---- Its value
 
-
 module _ (b : ℕ) where
   pub value-under : b < 0x30 → value b ≡ 16
   unfolding value
@@ -94,8 +93,6 @@ digit-value b h = ⊎-elim under (λ (g : 0x30 ≤ b). ⊎-elim (low g) over (lt
     over g = ⊎-elim (λ (l : b < 0x61). absurd (omega (arith, value-between b g l))) high (lt-or-le b 0x61)
 
 -- ---- Two digits
-
-
 
 module _ (a b : ℕ) where
   pub byte-first-bad : 16 ≤ value a → byte a b ≡ 256
