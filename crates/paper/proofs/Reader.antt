@@ -29,7 +29,7 @@ use Rattle.paper.specs.declared.Section.{Section}
 use Rattle.paper.specs.declared.Link.{Link}
 use Rattle.paper.specs.Room.{job, section, link, noJob, noSection, noLink}
 use Rattle.paper.specs.Text.{line, engineFrame, jobFrame, sectionFrame, linkFrame, frames, ending, render, pad}
-use Rattle.paper.specs.Text.{Carried, GoodText, Begins, FirstBadLine, Read}
+use Rattle.paper.specs.Text.{GoodText, Begins, FirstBadLine, Read}
 use Rattle.paper.proofs.Lines.{Bytes, line-length, ending-line, byteAt, Line, line-within, frameAt, frameAt-length, frameAt-kind, frameAt-bytes}
 use Rattle.paper.proofs.Lines.{line-there, there-kind, there-line, Ending, ending-there, there-ending}
 use Rattle.paper.proofs.Texts.{EachBytes, text-more, allFrames, allFrames-bytes, all-length, render-is, render-parts, frames-length, lines-length}

@@ -2,7 +2,6 @@
 -- too, and the reply by that certificate. So a row costs no proof of its own. What passes is proved by what follows from a certificate.
 --   alike, alike-eq, alike-refl   two lists of numbers are the same, as a test
 --   same, same-eq, same-refl      two configurations are
---   replyTest, T-reply            a test for each of the replies GOOD, NONE and OUT; any other reply fails
 --   certificate                   the rows found for a room of n configurations
 --   roomTest                      a room within the limits whose certificate has n configurations
 --   goodTest, noneTest            what a reply to planning asks of it
@@ -19,12 +18,14 @@ use lib.ListN.{length}
 use lib.Dec.{T, eqb, eqb→eq, eqb-refl}
 use Rattle.paper.specs.declared.Room.{Room}
 use Rattle.paper.specs.declared.Configuration.{Configuration}
-use Rattle.paper.specs.declared.Reply.{Reply}
-use Rattle.paper.specs.declared.Reply.the-variants as say
+use Rattle.paper.specs.declared.Planned.{Planned}
+use Rattle.paper.specs.declared.Planned.the-variants as planned
+use Rattle.paper.specs.declared.Judged.{Judged}
+use Rattle.paper.specs.declared.Judged.the-variants as judged
 use Rattle.paper.specs.Room.{Clock, Limits}
 use Rattle.paper.specs.Centre.{Centre, Outside}
 use Rattle.paper.specs.Configuration.{Counted}
-use Rattle.paper.specs.Reply.{numbers, most, W, PlanIs, Decided}
+use Rattle.paper.specs.Reply.{plannedNumbers, judgedNumbers, most, W, PlanIs, Decided}
 use Rattle.paper.specs.Rows.{Row, planning, judging, Meets}
 use Rattle.laws.specs.Lists.{_∈_}
 use Rattle.laws.specs.Tests.{both}
@@ -81,39 +82,6 @@ same-refl c = and-T _ _ (eqb-refl (c .position)) (alike-refl (c .done))
 
 -- ---- The tests
 
-module _ (good : ℕ → ℕ → ℕ → Bool) (none : Bool) (out : ℕ → Bool) where
-  unfoldable pub replyTest : Reply → Bool
-  replyTest (say.Good n i a c) = good i a c
-  replyTest (say.None n) = none
-  replyTest (say.Text i) = false
-  replyTest say.Engines = false
-  replyTest say.Jobs = false
-  replyTest (say.Job i) = false
-  replyTest (say.Section i) = false
-  replyTest (say.Link i) = false
-  replyTest (say.Long i) = false
-  replyTest say.Table = false
-  replyTest say.Room = false
-  replyTest (say.Short i) = false
-  replyTest (say.Out n i) = out i
-
-  pub T-reply : (P : Reply → Type 0) → ((n i a c : ℕ) → T (good i a c) → P (say.Good n i a c)) → ((n : ℕ) → T none → P (say.None n))
-      → ((n i : ℕ) → T (out i) → P (say.Out n i)) → (r : Reply) → T (replyTest r) → P r
-  unfolding replyTest
-  T-reply P g v o (say.Good n i a c) t = g n i a c t
-  T-reply P g v o (say.None n) t = v n t
-  T-reply P g v o (say.Text i) t = absurd t
-  T-reply P g v o say.Engines t = absurd t
-  T-reply P g v o say.Jobs t = absurd t
-  T-reply P g v o (say.Job i) t = absurd t
-  T-reply P g v o (say.Section i) t = absurd t
-  T-reply P g v o (say.Link i) t = absurd t
-  T-reply P g v o (say.Long i) t = absurd t
-  T-reply P g v o say.Table t = absurd t
-  T-reply P g v o say.Room t = absurd t
-  T-reply P g v o (say.Short i) t = absurd t
-  T-reply P g v o (say.Out n i) t = o n i t
-
 module _ (room : Room) where
   abbrev moves : Configuration → ℕ → Configuration
   moves = step room (R room) (H room)
@@ -135,32 +103,36 @@ module _ (room : Room) where
     unfoldable pub roomTest : ℕ → Bool
     roomTest n = both (limitsTest room) (both (clockTest room) (both (good? same (test room) moves begin bound found) (eqb (length found) n)))
 
-    unfoldable pub goodTest : List ℕ → ℕ → ℕ → ℕ → Bool
-    goodTest masks i a c = both (eqb i 0)
-        (both (rowAt begin found 0 .living) (both (turns? leads 0 a (a + c)) (alike masks (trailMasks mask leads 0 (a + c)))))
+    unfoldable pub goodTest : List ℕ → ℕ → ℕ → Bool
+    goodTest masks a c = both (rowAt begin found 0 .living) (both (turns? leads 0 a (a + c)) (alike masks (trailMasks mask leads 0 (a + c))))
 
     unfoldable pub noneTest : List ℕ → Bool
     noneTest masks = both (lost? same (test room) moves begin found []) (alike masks [])
 
-    unfoldable pub acceptedTest : List ℕ → ℕ → ℕ → ℕ → Bool
-    acceptedTest past i a c = both (eqb i 0) (both (eqb a 0) (both (eqb c 0) (inside? same (test room) moves begin found past)))
+    unfoldable pub acceptedTest : List ℕ → Bool
+    acceptedTest past = inside? same (test room) moves begin found past
 
     unfoldable pub outTest : List ℕ → ℕ → Bool
     outTest past i = outside? same (test room) moves begin found past i
 
-    unfoldable pub planTest : List ℕ → Reply → Bool
-    planTest masks = replyTest (goodTest masks) (noneTest masks) (λ i. false)
+    unfoldable pub planTest : List ℕ → Planned → Bool
+    planTest masks (planned.Good n a c) = goodTest masks a c
+    planTest masks (planned.None n) = noneTest masks
+    planTest masks (planned.Undecided d) = false
+    planTest masks (planned.Short i) = false
 
-    unfoldable pub judgeTest : List ℕ → Reply → Bool
-    judgeTest past = replyTest (acceptedTest past) false (outTest past)
+    unfoldable pub judgeTest : List ℕ → Judged → Bool
+    judgeTest past (judged.Good n) = acceptedTest past
+    judgeTest past (judged.Undecided d) = false
+    judgeTest past (judged.Out n i) = outTest past i
 
 unfoldable pub rowTest : Row → Bool
 rowTest (planning room reply masks) =
-    let found = certificate room (numbers reply .count) in
-    both (roomTest room found (numbers reply .count)) (planTest room found masks reply)
+    let found = certificate room (plannedNumbers reply .count) in
+    both (roomTest room found (plannedNumbers reply .count)) (planTest room found masks reply)
 rowTest (judging room past reply) =
-    let found = certificate room (numbers reply .count) in
-    both (roomTest room found (numbers reply .count)) (judgeTest room found past reply)
+    let found = certificate room (judgedNumbers reply .count) in
+    both (roomTest room found (judgedNumbers reply .count)) (judgeTest room found past reply)
 
 unfoldable pub tableTest : List Row → Bool
 tableTest [] = true
@@ -212,75 +184,56 @@ module _ (room : Room) (found : List (Found Configuration)) (n : ℕ) (t : T (ro
   decided : (table₀ : List ℕ) → length table₀ ≤ most → n ≤ W table₀ → Decided room table₀ n
   decided table₀ h w = record { limits = limits; lent = h; count = record { R = R room; H = H room; clock = clock; counted = counted }; fits = w }
 
-  plan-good : (masks : List ℕ) (i a c : ℕ) → T (goodTest room found masks i a c) → Meets (planning room (say.Good n i a c) masks)
+  plan-good : (masks : List ℕ) (a c : ℕ) → T (goodTest room found masks a c) → Meets (planning room (planned.Good n a c) masks)
   unfolding goodTest
-  plan-good masks i a c u table₀ plan₀ h w fits =
+  plan-good masks a c u table₀ plan₀ h w fits =
       let p = T-and _ _ u in
       let q = T-and _ _ (p .1) in
-      let r = T-and _ _ (q .1) in
-      let e = alike-eq masks _ (r .1) in
+      let e = alike-eq masks _ (q .1) in
       let long = ap length e ∙ masks-length (mask room found) (leads room found) 0 (a + c) in
+      let is = plan-is masks a (a + c) (p .0) (q .0) e long in
       record {
-        says = record {
-          decided = decided table₀ h w;
-          masks = masks;
-          is = plan-is masks a (a + c) (q .0) (r .0) e long;
-          place = eqb→eq _ _ (p .0);
-          cycle = long;
-          fits = fits;
-          buffer = refl;
-        };
+        says = record { decided = decided table₀ h w; masks = masks; is = is; cycle = long; fits = fits; buffer = refl };
         table-after = refl;
       }
 
-  plan-none : (masks : List ℕ) → T (noneTest room found masks) → Meets (planning room (say.None n) masks)
+  plan-none : (masks : List ℕ) → T (noneTest room found masks) → Meets (planning room (planned.None n) masks)
   unfolding noneTest
   plan-none masks u table₀ plan₀ h w fits =
       let p = T-and _ _ u in
       record {
-        says = record { decided = decided table₀ h w; infeasible = not-in-centre [] (p .0); buffer = rw (alike-eq masks [] (p .1)) };
+        says = (record { decided = decided table₀ h w; infeasible = not-in-centre [] (p .0) }, rw (alike-eq masks [] (p .1)));
         table-after = refl;
       }
 
-  judge-good : (past : List ℕ) (i a c : ℕ) → T (acceptedTest room found past i a c) → Meets (judging room past (say.Good n i a c))
+  judge-good : (past : List ℕ) → T (acceptedTest room found past) → Meets (judging room past (judged.Good n))
   unfolding acceptedTest
-  judge-good past i a c u table₀ h w =
-      let p = T-and _ _ u in
-      let q = T-and _ _ (p .1) in
-      let r = T-and _ _ (q .1) in
-      record {
-        says = record {
-          decided = decided table₀ h w;
-          centre = in-centre past (r .1);
-          place = eqb→eq _ _ (p .0);
-          prefix = eqb→eq _ _ (q .0);
-          cycle = eqb→eq _ _ (r .0);
-        };
-        table-after = refl;
-      }
+  judge-good past u table₀ h w = record { says = record { decided = decided table₀ h w; centre = in-centre past u }; table-after = refl }
 
-  judge-out : (past : List ℕ) (i : ℕ) → T (outTest room found past i) → Meets (judging room past (say.Out n i))
+  judge-out : (past : List ℕ) (i : ℕ) → T (outTest room found past i) → Meets (judging room past (judged.Out n i))
   unfolding outTest
   judge-out past i u table₀ h w = record { says = record { decided = decided table₀ h w; outside = out-at past i u }; table-after = refl }
 
+module _ (room : Room) (found : List (Found Configuration)) where
+  plan-meets : (masks : List ℕ) (r : Planned) → T (roomTest room found (plannedNumbers r .count)) → T (planTest room found masks r)
+      → Meets (planning room r masks)
+  unfolding planTest
+  plan-meets masks (planned.Good n a c) t u = plan-good room found n t masks a c u
+  plan-meets masks (planned.None n) t u = plan-none room found n t masks u
+  plan-meets masks (planned.Undecided d) t u = absurd u
+  plan-meets masks (planned.Short i) t u = absurd u
+
+  judge-meets : (past : List ℕ) (r : Judged) → T (roomTest room found (judgedNumbers r .count)) → T (judgeTest room found past r)
+      → Meets (judging room past r)
+  unfolding judgeTest
+  judge-meets past (judged.Good n) t u = judge-good room found n t past u
+  judge-meets past (judged.Undecided d) t u = absurd u
+  judge-meets past (judged.Out n i) t u = judge-out room found n t past i u
+
 pub row-meets : (r : Row) → T (rowTest r) → Meets r
-unfolding rowTest planTest judgeTest
-row-meets (planning room reply masks) t =
-    let found = certificate room (numbers reply .count) in
-    let p = T-and _ _ t in
-    T-reply _ _ _ (λ r. T (roomTest room found (numbers r .count)) → Meets (planning room r masks))
-    (λ n i a c u x. plan-good room found n x masks i a c u)
-    (λ n u x. plan-none room found n x masks u)
-    (λ n i u. absurd u)
-    reply (p .1) (p .0)
-row-meets (judging room past reply) t =
-    let found = certificate room (numbers reply .count) in
-    let p = T-and _ _ t in
-    T-reply _ _ _ (λ r. T (roomTest room found (numbers r .count)) → Meets (judging room past r))
-    (λ n i a c u x. judge-good room found n x past i a c u)
-    (λ n u. absurd u)
-    (λ n i u x. judge-out room found n x past i u)
-    reply (p .1) (p .0)
+unfolding rowTest
+row-meets (planning room reply masks) t = let p = T-and _ _ t in plan-meets room _ masks reply (p .0) (p .1)
+row-meets (judging room past reply) t = let p = T-and _ _ t in judge-meets room _ past reply (p .0) (p .1)
 
 pub table-meets : {l : List Row} → T (tableTest l) → (r : Row) → r ∈ l → Meets r
 unfolding tableTest

@@ -2,7 +2,8 @@
 --   table-holds                    a table of 15 numbers holds 3 configurations, one of 16 holds 4
 --   longest-table, longer-table    a table of 4,194,304 numbers is not too long, one of 4,194,305 is
 --   table-kept, table-cleared      the table is as found after TABLE, and all zeros after ROOM
---   reply-numbers                  the five numbers of every reply
+--   refusal-numbers, planned-numbers, judged-numbers, text-numbers
+--                                  the five numbers of every answer
 --   answer-sample                  the answer to the first room worked by hand, byte for byte
 use Prim.Native.Nat.{ℕ}
 use native.Mathlib.Omega.{arith}
@@ -10,10 +11,15 @@ use mathlib.Core.Path.{_≡_, refl}
 use mathlib.Core.List.{List, [], _∷_, map, flatMap, flatten}
 use lib.ListN.{length, replicate}
 use Rattle.paper.specs.declared.Room.{Room}
-use Rattle.paper.specs.declared.Reply.{Reply}
-use Rattle.paper.specs.declared.Reply.the-variants as say
+use Rattle.paper.specs.declared.Numbers.{Numbers}
+use Rattle.paper.specs.declared.Refusal.the-variants as refusal
+use Rattle.paper.specs.declared.Undecided.the-variants as undecided
+use Rattle.paper.specs.declared.Planned.the-variants as planned
+use Rattle.paper.specs.declared.Judged.the-variants as judged
+use Rattle.paper.specs.declared.Reading.the-variants as reading
+use Rattle.paper.specs.declared.Writing.the-variants as writing
 use Rattle.paper.specs.Room.{Limits}
-use Rattle.paper.specs.Reply.{numbers, W, TooLong, PlanReply}
+use Rattle.paper.specs.Reply.{refusalNumbers, plannedNumbers, judgedNumbers, readingNumbers, writingNumbers, W, zeros, TooLong, PlanReply}
 use Rattle.paper.specs.Text.{digit, twoDigits, line}
 use Rattle.paper.specs.Answer.{twoBytes, fourBytes, answerFrame, slotFrame, answer}
 
@@ -30,36 +36,44 @@ module _ (room : Room) (table₀ : List ℕ) where
   longer-table limits e = record { limits = limits; long = omega arith }
 
   module _ (plan₀ : List ℕ) {table plan : List ℕ} where
-    table-kept : PlanReply room table₀ plan₀ say.Table table plan → table ≡ table₀
+    table-kept : PlanReply room table₀ plan₀ (planned.Undecided undecided.Table) table plan → table ≡ table₀
     table-kept x = x .table-after
 
-    table-cleared : PlanReply room table₀ plan₀ say.Room table plan → table ≡ replicate (length table₀) 0
+    table-cleared : PlanReply room table₀ plan₀ (planned.Undecided undecided.Room) table plan → table ≡ zeros table₀
     table-cleared x = x .table-after
 
--- ---- The numbers of a reply
+-- ---- The numbers of an answer
 
 -- code, count, place, prefix length and cycle length
-abbrev five : Reply → List ℕ
-five r = let N = numbers r in N .code ∷ N .count ∷ N .place ∷ N .prefix ∷ N .cycle ∷ []
+abbrev five : Numbers → List ℕ
+five N = N .code ∷ N .count ∷ N .place ∷ N .prefix ∷ N .cycle ∷ []
 
-reply-numbers : (n i a c : ℕ)
-    → map five (say.Good n i a c ∷ say.None n ∷ say.Text i ∷ say.Engines ∷ say.Jobs ∷ say.Job i ∷ say.Section i ∷ say.Link i ∷ say.Long i ∷ say.Table ∷ say.Room
-    ∷ say.Short i ∷ say.Out n i ∷ [])
-    ≡ (0 ∷ n ∷ i ∷ a ∷ c ∷ [])
-    ∷ (1 ∷ n ∷ 0 ∷ 0 ∷ 0 ∷ [])
-    ∷ (2 ∷ 0 ∷ i ∷ 0 ∷ 0 ∷ [])
-    ∷ (3 ∷ 0 ∷ 0 ∷ 0 ∷ 0 ∷ [])
+refusal-numbers : (i : ℕ) → map (λ r. five (refusalNumbers r)) (refusal.Engines ∷ refusal.Jobs ∷ refusal.Job i ∷ refusal.Section i ∷ refusal.Link i ∷ refusal.Long i ∷ [])
+    ≡ (3 ∷ 0 ∷ 0 ∷ 0 ∷ 0 ∷ [])
     ∷ (4 ∷ 0 ∷ 0 ∷ 0 ∷ 0 ∷ [])
     ∷ (5 ∷ 0 ∷ i ∷ 0 ∷ 0 ∷ [])
     ∷ (6 ∷ 0 ∷ i ∷ 0 ∷ 0 ∷ [])
     ∷ (7 ∷ 0 ∷ i ∷ 0 ∷ 0 ∷ [])
     ∷ (8 ∷ 0 ∷ i ∷ 0 ∷ 0 ∷ [])
+    ∷ []
+refusal-numbers i = refl
+
+planned-numbers : (n i a c : ℕ) → map (λ r. five (plannedNumbers r))
+    (planned.Good n a c ∷ planned.None n ∷ planned.Undecided undecided.Table ∷ planned.Undecided undecided.Room ∷ planned.Short i ∷ [])
+    ≡ (0 ∷ n ∷ 0 ∷ a ∷ c ∷ [])
+    ∷ (1 ∷ n ∷ 0 ∷ 0 ∷ 0 ∷ [])
     ∷ (9 ∷ 0 ∷ 0 ∷ 0 ∷ 0 ∷ [])
     ∷ (10 ∷ 0 ∷ 0 ∷ 0 ∷ 0 ∷ [])
     ∷ (11 ∷ 0 ∷ i ∷ 0 ∷ 0 ∷ [])
-    ∷ (12 ∷ n ∷ i ∷ 0 ∷ 0 ∷ [])
     ∷ []
-reply-numbers n i a c = refl
+planned-numbers n i a c = refl
+
+judged-numbers : (n i : ℕ) → map (λ r. five (judgedNumbers r)) (judged.Good n ∷ judged.Out n i ∷ []) ≡ (0 ∷ n ∷ 0 ∷ 0 ∷ 0 ∷ []) ∷ (12 ∷ n ∷ i ∷ 0 ∷ 0 ∷ []) ∷ []
+judged-numbers n i = refl
+
+text-numbers : (i : ℕ) → five (readingNumbers reading.Good) ∷ five (readingNumbers (reading.Text i)) ∷ five (writingNumbers (writing.Good i)) ∷ five (writingNumbers (writing.Short i)) ∷ []
+    ≡ (0 ∷ 0 ∷ 0 ∷ 0 ∷ 0 ∷ []) ∷ (2 ∷ 0 ∷ i ∷ 0 ∷ 0 ∷ []) ∷ (0 ∷ 0 ∷ i ∷ 0 ∷ 0 ∷ []) ∷ (11 ∷ 0 ∷ i ∷ 0 ∷ 0 ∷ []) ∷ []
+text-numbers i = refl
 
 -- ---- The answer
 

@@ -1,11 +1,13 @@
 -- Entries beyond a stated number are not looked at (01, "A room"): rooms with the same used entries get the same replies, with the same lent buffers
 -- at exit. The reader takes no room; in the room that it hands back the unused entries are zeros (`Read`).
 --   least-bad-along, first-bad-along               the places of rows with the same good entries
---   bad-job-used .. passes-used, refused-used      the refusals 3 to 8
+--   bad-job-used, bad-section-used, bad-link-used, passes-used, refused-used
+--                                                  the refusals 3 to 8
 --   centre-back, reached-back                      from the second room to the first
 --   outside-used                                   the shortest beginning outside the centre
 --   count-is-used, exceeds-used, plan-is-used      count, size and plan
---   decided-used, too-long-used, too-many-used     what a lent table leaves to decide
+--   decided-used, too-long-used, too-many-used, not-decided-used
+--                                                  what a lent table leaves to decide
 --   check-reply-used                               the call that checks
 --   plan-reply-used                                the call that plans
 --   judge-reply-used                               the call that judges
@@ -17,13 +19,23 @@ use mathlib.Core.List.{List}
 use lib.ListN.{take}
 use Rattle.paper.specs.declared.Room.{Room}
 use Rattle.paper.specs.declared.Configuration.{Configuration}
-use Rattle.paper.specs.declared.Reply.{Reply}
-use Rattle.paper.specs.declared.Reply.the-variants as say
+use Rattle.paper.specs.declared.Refusal.{Refusal}
+use Rattle.paper.specs.declared.Refusal.the-variants as refusal
+use Rattle.paper.specs.declared.Undecided.{Undecided}
+use Rattle.paper.specs.declared.Undecided.the-variants as undecided
+use Rattle.paper.specs.declared.Checked.{Checked}
+use Rattle.paper.specs.declared.Checked.the-variants as checked
+use Rattle.paper.specs.declared.Planned.{Planned}
+use Rattle.paper.specs.declared.Planned.the-variants as planned
+use Rattle.paper.specs.declared.Judged.{Judged}
+use Rattle.paper.specs.declared.Judged.the-variants as judged
+use Rattle.paper.specs.declared.Writing.{Writing}
+use Rattle.paper.specs.declared.Writing.the-variants as writing
 use Rattle.paper.specs.Room.{Limits, SameUsed}
 use Rattle.paper.specs.Centre.{Centre, Outside}
 use Rattle.paper.specs.Configuration.{Reached}
 use Rattle.paper.specs.Plan.{Greatest}
-use Rattle.paper.specs.Reply.{numbers, LeastBad, FirstBad, many, one, Passes, Refused, CountIs, PlanIs, Exceeds, Decided, TooLong, TooMany}
+use Rattle.paper.specs.Reply.{plannedNumbers, judgedNumbers, LeastBad, FirstBad, many, one, Passes, Refused, CountIs, PlanIs, Exceeds, Decided, TooLong, TooMany, NotDecided}
 use Rattle.paper.specs.Reply.{CheckReply, PlanSays, PlanReply, JudgeSays, JudgeReply, WriteReply}
 use Rattle.laws.proofs.Repeats.{first-along}
 use Rattle.paper.proofs.Refusals.{BadJob, BadSection, BadLink}
@@ -63,21 +75,14 @@ module _ {room room′ : Room} (same : SameUsed room room′) where
       let k : i < room′ .jobs = omega arith in
       search
 
-  pub refused-used : (r : Reply) → Refused room r → Refused room′ r
-  refused-used (say.Good n i a c) x = x
-  refused-used (say.None n) x = x
-  refused-used (say.Text i) x = x
-  refused-used say.Engines x = search (x, engines-fit-used back)
-  refused-used say.Jobs x = search (engines-fit-used same, x .1, jobs-fit-used back)
-  refused-used (say.Job i) x = search (engines-fit-used same, jobs-fit-used same, bad-job-used)
-  refused-used (say.Section i) x = search (engines-fit-used same, jobs-fit-used same, each-job-fits-used same, bad-section-used)
-  refused-used (say.Link i) x = search (engines-fit-used same, jobs-fit-used same, each-job-fits-used same, sections-fit-used same, bad-link-used)
-  refused-used (say.Long i) x =
+  refused-used : (r : Refusal) → Refused room r → Refused room′ r
+  refused-used refusal.Engines x = search (x .fault, engines-fit-used back)
+  refused-used refusal.Jobs x = search (engines-fit-used same, x .fault, jobs-fit-used back)
+  refused-used (refusal.Job i) x = search (engines-fit-used same, jobs-fit-used same, bad-job-used)
+  refused-used (refusal.Section i) x = search (engines-fit-used same, jobs-fit-used same, each-job-fits-used same, bad-section-used)
+  refused-used (refusal.Link i) x = search (engines-fit-used same, jobs-fit-used same, each-job-fits-used same, sections-fit-used same, bad-link-used)
+  refused-used (refusal.Long i) x =
       search (engines-fit-used same, jobs-fit-used same, each-job-fits-used same, sections-fit-used same, links-fit-used same, passes-used)
-  refused-used say.Table x = x
-  refused-used say.Room x = x
-  refused-used (say.Short i) x = x
-  refused-used (say.Out n i) x = x
 
   -- ---- Centre, count and plan
 
@@ -116,74 +121,39 @@ module _ {room room′ : Room} (same : SameUsed room room′) where
   pub too-many-used : {table₀ : List ℕ} → TooMany room table₀ → TooMany room′ table₀
   too-many-used x = search (limits-used same, exceeds-used)
 
+  not-decided-used : (table₀ : List ℕ) (u : Undecided) → NotDecided room table₀ u → NotDecided room′ table₀ u
+  not-decided-used table₀ (undecided.Refused r) x = refused-used r x
+  not-decided-used table₀ undecided.Table x = too-long-used x
+  not-decided-used table₀ undecided.Room x = too-many-used x
+
   -- ---- The calls
 
-  pub check-reply-used : (r : Reply) → CheckReply room r → CheckReply room′ r
-  check-reply-used (say.Good n i a c) x = search (limits-used same)
-  check-reply-used (say.None n) x = x
-  check-reply-used (say.Text i) x = x
-  check-reply-used say.Engines x = refused-used say.Engines x
-  check-reply-used say.Jobs x = refused-used say.Jobs x
-  check-reply-used (say.Job i) x = refused-used (say.Job i) x
-  check-reply-used (say.Section i) x = refused-used (say.Section i) x
-  check-reply-used (say.Link i) x = refused-used (say.Link i) x
-  check-reply-used (say.Long i) x = refused-used (say.Long i) x
-  check-reply-used say.Table x = x
-  check-reply-used say.Room x = x
-  check-reply-used (say.Short i) x = x
-  check-reply-used (say.Out n i) x = x
+  pub check-reply-used : (r : Checked) → CheckReply room r → CheckReply room′ r
+  check-reply-used checked.Good x = limits-used same x
+  check-reply-used (checked.Refused r) x = refused-used r x
 
   module _ (table₀ plan₀ plan : List ℕ) where
-    plan-says-used : (r : Reply) → PlanSays room table₀ plan₀ (numbers r) r plan → PlanSays room′ table₀ plan₀ (numbers r) r plan
-    plan-says-used (say.Good n i a c) x = search (decided-used, plan-is-used)
-    plan-says-used (say.None n) x = search (decided-used, centre-back, x .infeasible)
-    plan-says-used (say.Text i) x = x
-    plan-says-used say.Engines x = (refused-used say.Engines (x .0), x .1)
-    plan-says-used say.Jobs x = (refused-used say.Jobs (x .0), x .1)
-    plan-says-used (say.Job i) x = (refused-used (say.Job i) (x .0), x .1)
-    plan-says-used (say.Section i) x = (refused-used (say.Section i) (x .0), x .1)
-    plan-says-used (say.Link i) x = (refused-used (say.Link i) (x .0), x .1)
-    plan-says-used (say.Long i) x = (refused-used (say.Long i) (x .0), x .1)
-    plan-says-used say.Table x = (too-long-used (x .0), x .1)
-    plan-says-used say.Room x = (too-many-used (x .0), x .1)
-    plan-says-used (say.Short i) x = let p = plan-is-used (x .decided .limits) (x .is) in search decided-used
-    plan-says-used (say.Out n i) x = x
+    plan-says-used : (r : Planned) → PlanSays room table₀ plan₀ (plannedNumbers r) r plan → PlanSays room′ table₀ plan₀ (plannedNumbers r) r plan
+    plan-says-used (planned.Good n a c) x = search (decided-used, plan-is-used)
+    plan-says-used (planned.None n) x = let y = x .0 in search (decided-used, centre-back, y .infeasible)
+    plan-says-used (planned.Undecided u) x = (not-decided-used table₀ u (x .0), x .1)
+    plan-says-used (planned.Short i) x = let y = x .0 in let p = plan-is-used (y .decided .limits) (y .is) in search decided-used
 
-  pub plan-reply-used : {table₀ plan₀ : List ℕ} {r : Reply} {table plan : List ℕ} → PlanReply room table₀ plan₀ r table plan
+  pub plan-reply-used : {table₀ plan₀ : List ℕ} {r : Planned} {table plan : List ℕ} → PlanReply room table₀ plan₀ r table plan
       → PlanReply room′ table₀ plan₀ r table plan
   plan-reply-used {table₀} {plan₀} {r} {plan = plan} x = record { says = plan-says-used table₀ plan₀ plan r (x .says); table-after = x .table-after }
 
   module _ (past table₀ : List ℕ) where
-    judge-says-used : (r : Reply) → JudgeSays room past table₀ (numbers r) r → JudgeSays room′ past table₀ (numbers r) r
-    judge-says-used (say.Good n i a c) x = search (decided-used, centre-used same)
-    judge-says-used (say.None n) x = x
-    judge-says-used (say.Text i) x = x
-    judge-says-used say.Engines x = refused-used say.Engines x
-    judge-says-used say.Jobs x = refused-used say.Jobs x
-    judge-says-used (say.Job i) x = refused-used (say.Job i) x
-    judge-says-used (say.Section i) x = refused-used (say.Section i) x
-    judge-says-used (say.Link i) x = refused-used (say.Link i) x
-    judge-says-used (say.Long i) x = refused-used (say.Long i) x
-    judge-says-used say.Table x = too-long-used x
-    judge-says-used say.Room x = too-many-used x
-    judge-says-used (say.Short i) x = x
-    judge-says-used (say.Out n i) x = search (decided-used, outside-used)
+    judge-says-used : (r : Judged) → JudgeSays room past table₀ (judgedNumbers r) r → JudgeSays room′ past table₀ (judgedNumbers r) r
+    judge-says-used (judged.Good n) x = search (decided-used, centre-used same)
+    judge-says-used (judged.Undecided u) x = not-decided-used table₀ u x
+    judge-says-used (judged.Out n i) x = search (decided-used, outside-used)
 
-  pub judge-reply-used : {past table₀ : List ℕ} {r : Reply} {table : List ℕ} → JudgeReply room past table₀ r table → JudgeReply room′ past table₀ r table
+  pub judge-reply-used : {past table₀ : List ℕ} {r : Judged} {table : List ℕ} → JudgeReply room past table₀ r table → JudgeReply room′ past table₀ r table
   judge-reply-used {past} {table₀} {r} x = record { says = judge-says-used past table₀ r (x .says); table-after = x .table-after }
 
   module _ (text₀ text : List ℕ) where
-    pub write-reply-used : (r : Reply) → WriteReply room text₀ r text → WriteReply room′ text₀ r text
-    write-reply-used (say.Good n i a c) x = search (limits-used same, ← used-render room room′ same)
-    write-reply-used (say.None n) x = x
-    write-reply-used (say.Text i) x = x
-    write-reply-used say.Engines x = (refused-used say.Engines (x .0), x .1)
-    write-reply-used say.Jobs x = (refused-used say.Jobs (x .0), x .1)
-    write-reply-used (say.Job i) x = (refused-used (say.Job i) (x .0), x .1)
-    write-reply-used (say.Section i) x = (refused-used (say.Section i) (x .0), x .1)
-    write-reply-used (say.Link i) x = (refused-used (say.Link i) (x .0), x .1)
-    write-reply-used (say.Long i) x = (refused-used (say.Long i) (x .0), x .1)
-    write-reply-used say.Table x = x
-    write-reply-used say.Room x = x
-    write-reply-used (say.Short i) x = search (limits-used same, ← used-render room room′ same)
-    write-reply-used (say.Out n i) x = x
+    pub write-reply-used : (r : Writing) → WriteReply room text₀ r text → WriteReply room′ text₀ r text
+    write-reply-used (writing.Good i) x = search (limits-used same, ← used-render room room′ same)
+    write-reply-used (writing.Refused r) x = (refused-used r (x .0), x .1)
+    write-reply-used (writing.Short i) x = let y = x .0 in search (limits-used same, ← used-render room room′ same)

@@ -14,9 +14,10 @@ use mathlib.Core.Logic.{_↔_}
 use mathlib.Core.List.{List}
 use lib.ListN.{length, take}
 use Rattle.paper.specs.declared.Room.{Room}
+use Rattle.paper.specs.declared.Numbers.{Numbers}
 use Rattle.paper.specs.Centre.{beginning, Endless, ForEver}
 use Rattle.paper.specs.Plan.{Greatest, unrolled}
-use Rattle.paper.specs.Reply.{Numbers, PlanIs, Decided}
+use Rattle.paper.specs.Reply.{PlanIs, Decided}
 use Rattle.paper.specs.Languages.{DependentValid}
 
 -- ---- What can be

@@ -9,7 +9,7 @@
 --   lineAfter     its number
 use Prim.Native.Nat.{ℕ, _+_, _*_, _-_, _≤_, _<_}
 use mathlib.Core.Path.{_≡_}
-use mathlib.Core.Bool.{cond, _&&_}
+use mathlib.Core.Bool.{cond}
 use mathlib.Core.List.{List, flatMap}
 use lib.ListN.{length, take, getD}
 use lib.Dec.{ltb}

@@ -1,46 +1,44 @@
--- What the calls answer once a room is within the limits and the table is not too long: ROOM, or the answer to a decided room.
---   PlanAnswers    of planning: GOOD, NONE, ROOM or SHORT
---   JudgeAnswers   of judging: GOOD, ROOM or OUT
-use Prim.Native.Nat.{ℕ}
+-- The parts of the calls that lend a table.
+--   Undecides                   why a room is not decided, and the table as the reply leaves it
+--   Admitted, Admits            a room within the limits and a table that is not too long; or why it is not decided, the table as found
+--   Decides                     the table pruned, with the count; or why the room is not decided
+--   PlanAnswers, JudgeAnswers   the answer of a decided room, whatever table it was decided in
+use Prim.Native.Nat.{ℕ, _≤_}
 use mathlib.Core.Path.{_≡_}
 use mathlib.Core.List.{List}
+use lib.ListN.{length}
 use Rattle.paper.specs.declared.Room.{Room}
-use Rattle.paper.specs.declared.Reply.{Reply}
-use Rattle.paper.specs.declared.Reply.the-variants as say
-use Rattle.paper.specs.Reply.{Numbers, numbers, TooMany, PlanGood, PlanNone, PlanShort, JudgeGood, JudgeOut}
+use Rattle.paper.specs.declared.Undecided.{Undecided}
+use Rattle.paper.specs.declared.Planned.{Planned}
+use Rattle.paper.specs.declared.Judged.{Judged}
+use Rattle.paper.specs.Room.{Limits}
+use Rattle.paper.specs.Reply.{undecidedNumbers, most, zeros, tableAfter, Decided, NotDecided, PlanReply, JudgeReply}
+use Rattle.follow.specs.Pasts.{Given}
+use Rattle.planner.specs.declared.Admission.{Admission}
+use Rattle.planner.specs.declared.Admission.the-variants as admission
+use Rattle.planner.specs.declared.Decision.{Decision}
+use Rattle.planner.specs.declared.Decision.the-variants as decision
 
-abbrev pub PlanAnswersBy : Room → List ℕ → List ℕ → Numbers → Reply → List ℕ → Type 0
-PlanAnswersBy room table₀ plan₀ N (say.Good n i a c) plan = PlanGood room table₀ plan₀ plan N
-PlanAnswersBy room table₀ plan₀ N (say.None n) plan = PlanNone room table₀ plan₀ plan N
-PlanAnswersBy room table₀ plan₀ N (say.Text i) plan = ⊥
-PlanAnswersBy room table₀ plan₀ N say.Engines plan = ⊥
-PlanAnswersBy room table₀ plan₀ N say.Jobs plan = ⊥
-PlanAnswersBy room table₀ plan₀ N (say.Job i) plan = ⊥
-PlanAnswersBy room table₀ plan₀ N (say.Section i) plan = ⊥
-PlanAnswersBy room table₀ plan₀ N (say.Link i) plan = ⊥
-PlanAnswersBy room table₀ plan₀ N (say.Long i) plan = ⊥
-PlanAnswersBy room table₀ plan₀ N say.Table plan = ⊥
-PlanAnswersBy room table₀ plan₀ N say.Room plan = TooMany room table₀ × (plan ≡ plan₀)
-PlanAnswersBy room table₀ plan₀ N (say.Short i) plan = PlanShort room table₀ plan₀ plan N
-PlanAnswersBy room table₀ plan₀ N (say.Out n i) plan = ⊥
+-- 3 to 10, with the table that the code asks for
+pub record Undecides (room : Room) (table₀ : List ℕ) (why : Undecided) (table : List ℕ) : Type 0 where
+  pub says : NotDecided room table₀ why
+  pub table-after : table ≡ tableAfter (undecidedNumbers why .code) table₀
 
-abbrev pub PlanAnswers : Room → List ℕ → List ℕ → Reply → List ℕ → Type 0
-PlanAnswers room table₀ plan₀ r plan = PlanAnswersBy room table₀ plan₀ (numbers r) r plan
+-- none of 3 to 9 applies
+pub record Admitted (room : Room) (table : List ℕ) : Type 0 where
+  pub limits : Limits room
+  pub lent : length table ≤ most
 
-abbrev pub JudgeAnswersBy : Room → List ℕ → List ℕ → Numbers → Reply → Type 0
-JudgeAnswersBy room past table₀ N (say.Good n i a c) = JudgeGood room past table₀ N
-JudgeAnswersBy room past table₀ N (say.None n) = ⊥
-JudgeAnswersBy room past table₀ N (say.Text i) = ⊥
-JudgeAnswersBy room past table₀ N say.Engines = ⊥
-JudgeAnswersBy room past table₀ N say.Jobs = ⊥
-JudgeAnswersBy room past table₀ N (say.Job i) = ⊥
-JudgeAnswersBy room past table₀ N (say.Section i) = ⊥
-JudgeAnswersBy room past table₀ N (say.Link i) = ⊥
-JudgeAnswersBy room past table₀ N (say.Long i) = ⊥
-JudgeAnswersBy room past table₀ N say.Table = ⊥
-JudgeAnswersBy room past table₀ N say.Room = TooMany room table₀
-JudgeAnswersBy room past table₀ N (say.Short i) = ⊥
-JudgeAnswersBy room past table₀ N (say.Out n i) = JudgeOut room past table₀ N
+abbrev pub Admits : Room → List ℕ → Admission → Type 0
+Admits room table admission.Admitted = Admitted room table
+Admits room table (admission.Undecided why) = Undecides room table why table
 
-abbrev pub JudgeAnswers : Room → List ℕ → List ℕ → Reply → Type 0
-JudgeAnswers room past table₀ r = JudgeAnswersBy room past table₀ (numbers r) r
+abbrev pub Decides : Room → List ℕ → Decision → List ℕ → Type 0
+Decides room table₀ (decision.Decided times w n) table = Decided room table₀ n × Given room times table w n
+Decides room table₀ (decision.Undecided why) table = Undecides room table₀ why table
+
+abbrev pub PlanAnswers : Room → ℕ → List ℕ → Planned → List ℕ → Type 0
+PlanAnswers room n plan₀ r plan = (table₀ : List ℕ) → Decided room table₀ n → PlanReply room table₀ plan₀ r (zeros table₀) plan
+
+abbrev pub JudgeAnswers : Room → ℕ → List ℕ → Judged → Type 0
+JudgeAnswers room n past r = (table₀ : List ℕ) → Decided room table₀ n → JudgeReply room past table₀ r (zeros table₀)
