@@ -6,7 +6,6 @@
 --   refusals-one                  they have one outcome, where Rest has
 --   refused                       a refusal is one of their outcomes
 --   limits-through                within the limits the outcome is one of Rest
---   refused-beyond                what is refused is not within the limits
 --   Held                          the table holds all configurations
 --   Deciding                      3 to 8, TABLE and ROOM, and then Rest
 --   deciding-one                  they have one outcome, where Rest has
@@ -101,13 +100,6 @@ module _ {Z : Type 0} (room : Room) (u : Refusal → Z) (Rest : Z → Type 0) wh
   limits-through l x =
       to-long ((((l .engines, l .jobs), l .job), l .sections), l .links)
       (passes (record { H = l .H; multiple = l .multiple; short = l .short }) x)
-
--- two outcomes, 0 for all refusals and 1 for the rest
-pub refused-beyond : (room : Room) (r : Refusal) → Refused room r → ¬ Limits room
-refused-beyond room r x l =
-    let u : Refusal → ℕ = λ r. 0 in
-    let e = refusals-one room u (Settled 1) (settled-one 1) 0 1 (refused room u (Settled 1) r x) (limits-through room u (Settled 1) l refl) in
-    omega arith
 
 -- ---- TABLE and ROOM
 

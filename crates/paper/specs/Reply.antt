@@ -1,17 +1,26 @@
 -- What comes back (01, "What comes back"): the numbers of each answer, when it is given, and the lent memory afterwards.
---   named                    code, count and place, the rest 0
---   refusalNumbers, undecidedNumbers   the numbers of what the calls share
---   checkedNumbers, plannedNumbers, judgedNumbers, readingNumbers, writingNumbers   those of each call's answer
---   LeastBad, FirstBad, Passes   the places of the refusals 5 to 8
---   ToJobs .. ToLong         the room comes to each of their tests
---   Earlier, Fault, Refused  the refusals 3 to 8: the tests before one pass, and its own fails
---   CountIs, PlanIs, Exceeds  count, plan and more than w, for the R and H of the room
---   most, W                  the longest table, and how many configurations a table holds
---   zeros, tableAfter        a cleared table; the table after a call
---   written                  a buffer with a result from its start
---   CheckReply               the call that checks: its argument and its answer
---   Decided, NotDecided      a room decided with its count; and why one is not: 3 to 10
---   PlanReply, JudgeReply, ReadReply, WriteReply   the other four calls: all arguments at entry, the answer, every lent buffer at exit
+--   named                            code, count and place, the rest 0
+--   refusalNumbers, undecidedNumbers the numbers of what the calls share
+--   checkedNumbers, plannedNumbers, judgedNumbers, readingNumbers, writingNumbers
+--                                    those of each call's answer
+--   LeastBad, FirstBad, Passes       the places of the refusals 5 to 8
+--   ToJobs, ToJob, ToSection, ToLink, ToLong
+--                                    the room comes to each of their tests
+--   Earlier, Fault, Refused          the refusals 3 to 8: the tests before one pass, and its own fails
+--   CountIs, PlanIs, Exceeds         count, plan and more than w, for the R and H of the room
+--   most, W                          the longest table, and how many configurations a table holds
+--   zeros, tableAfter                a cleared table; the table after a call
+--   written                          a buffer with a result from its start
+--   CheckReply                       the call that checks: its argument and its answer
+--   Decided                          a room decided with its count
+--   TooLong, TooMany, NotDecided     TABLE, ROOM, and with 3 to 8 all that leaves a room undecided
+--   PlanGood, PlanNone, PlanShort, PlanSays, PlanReply
+--                                    the call that plans: all arguments at entry, the answer, every lent buffer at exit
+--   JudgeGood, JudgeOut, JudgeSays, JudgeReply
+--                                    the call that judges, likewise
+--   ReadSays, ReadReply              the reader
+--   WriteGood, WriteShort, WriteSays, WriteReply
+--                                    the writer
 use Prim.Native.Nat.{ℕ, _+_, _≤_, _<_, _/_}
 use mathlib.Core.Path.{_≡_}
 use mathlib.Core.Bool.{cond, _&&_}
