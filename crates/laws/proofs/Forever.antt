@@ -31,12 +31,12 @@ use native.Mathlib.Decide.{decLt}
 use lib.Dec.{T}
 use lib.Seq.{length-take-le, take-take, take-all}
 use lib.ListN.{length, take, drop, length-append, length-drop, take-append-drop}
-use Rattle.laws.specs.Lists.{_∈_, row, times, beginning}
+use Rattle.laws.specs.Lists.{_∈_, row, repeated, beginning}
 use Rattle.laws.specs.Repeats.{FirstTwice}
 use Rattle.laws.specs.Walks.{after, Walk, stop, go, Alive}
 use Rattle.laws.specs.Certificate.{Certificate, Centre}
 use Rattle.laws.specs.Forever.{path, follow, masks, Greedy, end, pick, Plan, ForEver}
-use Rattle.laws.proofs.Lists.{beginning-length, take-beginning, length-times}
+use Rattle.laws.proofs.Lists.{beginning-length, take-beginning, length-repeated}
 use Rattle.laws.proofs.Repeats.{first-unique, first-along, first-twice-exists}
 use Rattle.laws.proofs.Walks.{after-append, walk-append, walk-parts}
 use Rattle.laws.proofs.Certificate.{greatest-unique, best-is-greatest, lives-iff, after-member}
@@ -85,8 +85,8 @@ module _ {C : Type 0} (step : C → ℕ → C) (best : C → ℕ) where
   unfolding beginning path
   beginning-masks c n = row-masks c 0 n
 
-  pub rounds : (d : C) (p k : ℕ) → path step best d p ≡ d → follow step best d (k * p) ≡ times k (follow step best d p)
-  unfolding follow times
+  pub rounds : (d : C) (p k : ℕ) → path step best d p ≡ d → follow step best d (k * p) ≡ repeated k (follow step best d p)
+  unfolding follow repeated
   rounds d p zero e = rw zero-mul
   rounds d p (suc k) e =
       let a : suc k * p ≡ p + k * p = omega (arith, suc-mul k p) in
@@ -96,7 +96,7 @@ module _ {C : Type 0} (step : C → ℕ → C) (best : C → ℕ) where
       ∙ ap (λ l. follow step best d p ++ l) (rounds d p k e)
 
   pub lasso : (c : C) (i p k : ℕ) → path step best c i ≡ path step best c (i + p)
-      → follow step best c (i + k * p) ≡ follow step best c i ++ times k (follow step best (path step best c i) p)
+      → follow step best c (i + k * p) ≡ follow step best c i ++ repeated k (follow step best (path step best c i) p)
   lasso c i p k e =
       follow-add c i (k * p) ∙ ap (λ l. follow step best c i ++ l) (rounds (path step best c i) p k (sym (path-add c i p) ∙ sym e))
 
@@ -141,10 +141,10 @@ module _ {C : Type 0} (test : C → ℕ → Bool) (step : C → ℕ → C) where
   greedy-take {c} {l} n w = greedy-parts c (take n l) (drop n l) (rw take-append-drop w) .0
 
   -- a greedy walk back to where it began, k times
-  greedy-times : {c : C} {l : List ℕ} → after step c l ≡ c → Greedy test step c l → (k : ℕ) → Greedy test step c (times k l)
-  unfolding times
-  greedy-times e w zero = end
-  greedy-times {c} {l} e w (suc k) = greedy-append w (rw e (greedy-times e w k))
+  greedy-repeated : {c : C} {l : List ℕ} → after step c l ≡ c → Greedy test step c l → (k : ℕ) → Greedy test step c (repeated k l)
+  unfolding repeated
+  greedy-repeated e w zero = end
+  greedy-repeated {c} {l} e w (suc k) = greedy-append w (rw e (greedy-repeated e w k))
 
   -- ---- The plan
 
@@ -178,7 +178,7 @@ module _ {C : Type 0} (test : C → ℕ → Bool) (step : C → ℕ → C) where
       record {
         moves = simp length-drop (omega arith);
         back = e;
-        greedy = λ k. greedy-append (parts .0) (greedy-times e (parts .1) k);
+        greedy = λ k. greedy-append (parts .0) (greedy-repeated e (parts .1) k);
       }
 
   -- ---- Endless sequences
@@ -231,14 +231,14 @@ module _ {C : Type 0} (test : C → ℕ → Bool) (step : C → ℕ → C) where
     )
 
     pub plan-masks : (c : C) → c ∈ cs → T (z .lives c) → {a b : ℕ} {l : List ℕ} → Plan test step c a b l → (k : ℕ)
-        → beginning (masks step (z .best) c) (a + k * (b - a)) ≡ take a l ++ times k (drop a l)
+        → beginning (masks step (z .best) c) (a + k * (b - a)) ≡ take a l ++ repeated k (drop a l)
     plan-masks c p v {a} {b} {l} q k =
         let h : a < b = q .turns .earlier in
         let n : length l ≡ b = q .long in
         let t : length (take a l) ≡ a = length-take-le a l (omega arith) in
         let d : length (drop a l) ≡ b - a = length-drop a l ∙ ap (λ x. x - a) n in
         greedy-unique c _ _ (endless c p v (a + k * (b - a))) (plan-forever q .greedy k)
-        (simp (beginning-length, length-append, length-times, t, d))
+        (simp (beginning-length, length-append, length-repeated, t, d))
 
     module _ (eq? : Discrete C) where
       pub comes-again : (c : C) → c ∈ cs → T (z .lives c) → (a : ℕ) × (b : ℕ) × (b ≤ length cs) × FirstTwice (path step (z .best) c) a b
@@ -275,7 +275,7 @@ module _ {C : Type 0} (test : C → ℕ → Bool) (step : C → ℕ → C) where
           (take (r .0) l, drop (r .0) l, rw e h, plan-forever (r .3))
 
       pub continues : (l : List ℕ) → Centre test step start l
-          → (prefix : List ℕ) × (cycle : List ℕ) × (0 < length cycle) × ((k : ℕ) → Centre test step start (l ++ (prefix ++ times k cycle)))
+          → (prefix : List ℕ) × (cycle : List ℕ) × (0 < length cycle) × ((k : ℕ) → Centre test step start (l ++ (prefix ++ repeated k cycle)))
       continues l c =
           let m = after-member test step z (c .0) in
           let r = for-ever (after step start l) m (lives-iff test step z (after step start l) m .1 (c .1)) in (

@@ -7,8 +7,8 @@
 --   take-row, row-list           the front of a row, and a list as a row
 --   beginning-length, beginning-at, beginning-same, take-beginning, beginning-more
 --                                the same of the beginning of a sequence
---   times-add, times-more        a repetition in two parts, and once more
---   length-times                 its length
+--   repeated-add, repeated-more        a repetition in two parts, and once more
+--   length-repeated                 its length
 --   pigeonhole                   distinct things that all lie in a list are no more than it has places
 --   same-length                  two distinct lists with the same members have one length
 --   too-many                     more than w distinct things with a property lie in no list of at most w places
@@ -34,7 +34,7 @@ use Prim.Native.Nat.{ℕ, zero, suc, _+_, _*_, _≤_, _<_}
 use native.Mathlib.Omega.{arith}
 use native.Mathlib.Nat.{add-zero, zero-add, suc-add, zero-mul, suc-mul}
 use lib.ListN.{length, take, getD, length-append}
-use Rattle.laws.specs.Lists.{_∈_, Distinct, none, more, row, times, beginning}
+use Rattle.laws.specs.Lists.{_∈_, Distinct, none, more, row, repeated, beginning}
 
 -- the first place, by a test of the head
 abbrev here : {P : Type 0} → Dec P → ℕ → ℕ
@@ -121,19 +121,19 @@ module _ {A : Type 0} where
 
   -- ---- Repetition
 
-  pub times-add : (m n : ℕ) (l : List A) → times (m + n) l ≡ times m l ++ times n l
-  unfolding times
-  times-add zero n l = rw zero-add
-  times-add (suc m) n l = rw suc-add (ap (λ (k : List A). l ++ k) (times-add m n l) ∙ sym (append-assoc l (times m l) (times n l)))
+  pub repeated-add : (m n : ℕ) (l : List A) → repeated (m + n) l ≡ repeated m l ++ repeated n l
+  unfolding repeated
+  repeated-add zero n l = rw zero-add
+  repeated-add (suc m) n l = rw suc-add (ap (λ (k : List A). l ++ k) (repeated-add m n l) ∙ sym (append-assoc l (repeated m l) (repeated n l)))
 
-  pub times-more : (n : ℕ) (l : List A) → times (n + 1) l ≡ times n l ++ l
-  unfolding times
-  times-more n l = times-add n 1 l ∙ ap (λ (k : List A). times n l ++ k) (append-nil l)
+  pub repeated-more : (n : ℕ) (l : List A) → repeated (n + 1) l ≡ repeated n l ++ l
+  unfolding repeated
+  repeated-more n l = repeated-add n 1 l ∙ ap (λ (k : List A). repeated n l ++ k) (append-nil l)
 
-  pub length-times : (n : ℕ) (l : List A) → length (times n l) ≡ n * length l
-  unfolding times
-  length-times zero l = sym (zero-mul (length l))
-  length-times (suc n) l = length-append l (times n l) ∙ (omega (arith, length-times n l, suc-mul n (length l)))
+  pub length-repeated : (n : ℕ) (l : List A) → length (repeated n l) ≡ n * length l
+  unfolding repeated
+  length-repeated zero l = sym (zero-mul (length l))
+  length-repeated (suc n) l = length-append l (repeated n l) ∙ (omega (arith, length-repeated n l, suc-mul n (length l)))
 
   -- ---- The pigeonhole
 

@@ -10,7 +10,7 @@ use mathlib.Core.Bool.{Bool}
 use mathlib.Core.List.{List, [], _∷_, _++_}
 use Prim.Native.Nat.{ℕ, zero, suc, _<_}
 use lib.ListN.{length, take}
-use Rattle.laws.specs.Lists.{times}
+use Rattle.laws.specs.Lists.{repeated}
 use Rattle.laws.specs.Repeats.{FirstTwice}
 use Rattle.laws.specs.Walks.{after}
 use Rattle.laws.specs.Certificate.{Greatest}
@@ -40,4 +40,4 @@ module _ {C : Type 0} (test : C → ℕ → Bool) (step : C → ℕ → C) where
   pub record ForEver (c : C) (prefix cycle : List ℕ) : Type 0 where
     pub moves : 0 < length cycle
     pub back : after step (after step c prefix) cycle ≡ after step c prefix
-    pub greedy : (k : ℕ) → Greedy c (prefix ++ times k cycle)
+    pub greedy : (k : ℕ) → Greedy c (prefix ++ repeated k cycle)

@@ -2,7 +2,7 @@
 --   x ∈ l           x is a member of l
 --   Distinct l      no two places of l hold the same
 --   row f i n       f i, f (i + 1), .., n numbers
---   times n l       l, n times
+--   repeated n l    l, n times
 --   beginning s n   the first n of the endless sequence s
 use mathlib.Core.List.{List, [], _∷_, _++_, List·Memᴰ}
 use Prim.Native.Nat.{ℕ, zero, suc}
@@ -20,9 +20,9 @@ module _ {A : Type 0} where
   row f i zero = []
   row f i (suc n) = f i ∷ row f (suc i) n
 
-  unfoldable pub times : ℕ → List A → List A
-  times zero l = []
-  times (suc n) l = l ++ times n l
+  unfoldable pub repeated : ℕ → List A → List A
+  repeated zero l = []
+  repeated (suc n) l = l ++ repeated n l
 
   unfoldable pub beginning : (ℕ → A) → ℕ → List A
   beginning s n = row s 0 n

@@ -7,6 +7,7 @@ use Prim.Native.Nat.{ℕ, suc, _-_, _≤_, _<_}
 use native.Mathlib.Omega.{arith}
 use mathlib.Core.Path.{_≡_}
 use Rattle.paper.specs.declared.Room.{Room}
+use Rattle.paper.specs.declared.Times.{Times}
 use Rattle.paper.specs.Room.{first, period, Multiple, GreatestFirst, Clock, Limits}
 use Rattle.laws.proofs.Greatest.{greatest-exists}
 use Rattle.laws.proofs.Multiples.{least-one}
@@ -20,8 +21,11 @@ module _ {room : Room} where
   pub greatest-first-one : {R R′ : ℕ} → GreatestFirst room R → GreatestFirst room R′ → R ≡ R′
   greatest-first-one x y = omega (arith, x .bound (y .which) (y .known), y .bound (x .which) (x .known))
 
-  pub clock-one : {R R′ H H′ : ℕ} → Clock room R H → Clock room R′ H′ → (R ≡ R′) × (H ≡ H′)
-  clock-one x y = (greatest-first-one (x .greatest) (y .greatest), multiple-one room (x .multiple) (y .multiple))
+  pub clock-one : {times times′ : Times} → Clock room times → Clock room times′ → times ≡ times′
+  clock-one x y =
+      let r = greatest-first-one (x .greatest) (y .greatest) in
+      let h = multiple-one room (x .multiple) (y .multiple) in
+      λ i. record { first = r i; multiple = h i }
 
 -- ---- There is one
 
@@ -32,10 +36,10 @@ greatest-first-exists room h =
     let g = b .1 in
     (b .0, record { bound = g .bound; which = g .which; known = g .known; same = g .same })
 
-pub clock-exists : {room : Room} → Limits room → (R : ℕ) × (H : ℕ) × Clock room R H
+pub clock-exists : {room : Room} → Limits room → (times : Times) × Clock room times
 clock-exists {room} limits =
     let g = greatest-first-exists room (limits .jobs .0) in
-    (g .0, limits .H, record { greatest = g .1; multiple = limits .multiple })
+    (record { first = g .0; multiple = limits .H }, record { greatest = g .1; multiple = limits .multiple })
 
 -- ---- It is short
 
@@ -43,7 +47,7 @@ module _ {room : Room} (limits : Limits room) where
   pub period-positive : (i : ℕ) → i < room .jobs → 0 < period room i
   period-positive i h = let j = limits .job i h in omega arith
 
-  pub clock-short : {R H : ℕ} → Clock room R H → (R ≤ 255) × (H ≤ 4096)
+  pub clock-short : {times : Times} → Clock room times → (times .first ≤ 255) × (times .multiple ≤ 4096)
   clock-short x =
       let g = x .greatest in (
         omega (arith, limits .job (g .which) (g .known) .early),

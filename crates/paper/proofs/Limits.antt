@@ -1,7 +1,7 @@
 -- The limits of a room, its R and its H by computing. R is the least number that no first slot passes, H the least that every period divides.
 --   jobFits, sectionFits, linkFits   the ranges of an entry, as tests
 --   boundTest, commonTest            no first slot is above r; every period divides h
---   R, H                             of a room, as found
+--   R, H, times                      of a room, as found
 --   clockTest, T-clock               they pass, and so are the room's clock
 --   limitsTest, T-limits             all ranges, with that clock
 use Prim.Native.Nat.{ℕ, _≤_, _<_, _%_}
@@ -11,6 +11,7 @@ use mathlib.Core.Logic.{⊎-elim}
 use mathlib.Core.Bool.{Bool, not}
 use lib.Dec.{T, ltb, leb, eqb, ltb→lt, leb→le, le→leb, eqb→eq, T-not}
 use Rattle.paper.specs.declared.Room.{Room}
+use Rattle.paper.specs.declared.Times.{Times}
 use Rattle.paper.specs.declared.Job.{Job}
 use Rattle.paper.specs.declared.Section.{Section}
 use Rattle.paper.specs.declared.Link.{Link}
@@ -82,6 +83,9 @@ module _ (room : Room) where
   unfoldable pub H : ℕ
   H = least commonTest 4096 1
 
+  unfoldable pub times : Times
+  times = record { first = R; multiple = H }
+
   unfoldable pub clockTest : Bool
   clockTest = both (leb 1 (room .jobs)) (both (boundTest R) (both (ltb 0 H) (commonTest H)))
 
@@ -97,8 +101,8 @@ module _ (room : Room) where
       (lt-or-le (g .0) R) in
       subst (GreatestFirst room) e r
 
-  pub T-clock : T clockTest → Clock room R H
-  unfolding clockTest H commonTest
+  pub T-clock : T clockTest → Clock room times
+  unfolding times clockTest H commonTest
   T-clock t =
       let a = T-and _ _ t in
       let b = T-and _ _ (a .1) in
@@ -126,8 +130,8 @@ module _ (room : Room) where
       (both (both (leb (room .links) 16) (all (room .links) (λ q. linkFits room (link room q))))
       (leb H 4096)))))
 
-  pub T-limits : T limitsTest → Clock room R H → Limits room
-  unfolding limitsTest
+  pub T-limits : T limitsTest → Clock room times → Limits room
+  unfolding limitsTest H times
   T-limits t clock =
       let a = T-and _ _ t in
       let b = T-and _ _ (a .1) in

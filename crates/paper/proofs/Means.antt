@@ -109,7 +109,7 @@ module _ (room : Room) (table₀ plan₀ : List ℕ) where
       by-feasible (yes f) =
           let c = d .count in
           let p = plan-exists (d .limits) (c .clock) (c .counted) f in
-          by-length f (p .0) (record { R = c .R; H = c .H; clock = c .clock; plan = p .3 }) (lt-or-le (length plan₀) (length (p .0)))
+          by-length f (p .0) (record { times = c .times; clock = c .clock; plan = p .3 }) (lt-or-le (length plan₀) (length (p .0)))
 
   -- Possible is any property that the room has exactly if it is feasible
   plan-means-by : {Possible : Type 0} → (Limits room → Feasible room ↔ Possible) → (r : Planned) {table plan : List ℕ}

@@ -45,7 +45,7 @@ use Rattle.paper.proofs.Pasts.{past-centre, past-outside}
 use Rattle.paper.proofs.Certificates.{certified-count}
 use Rattle.paper.proofs.Plans.{plan-of}
 use Rattle.paper.proofs.Searches.{search}
-use Rattle.paper.proofs.Limits.{R, H, clockTest, limitsTest, T-clock, T-limits}
+use Rattle.paper.proofs.Limits.{times, clockTest, limitsTest, T-clock, T-limits}
 
 -- ---- Two configurations
 
@@ -84,7 +84,7 @@ same-refl c = and-T _ _ (eqb-refl (c .position)) (alike-refl (c .done))
 
 module _ (room : Room) where
   abbrev moves : Configuration → ℕ → Configuration
-  moves = step room (R room) (H room)
+  moves = step room (times room)
 
   -- no mask with a bit at or above n passes
   abbrev bound : ℕ
@@ -141,7 +141,7 @@ tableTest (r ∷ l) = both (rowTest r) (tableTest l)
 -- ---- What passes
 
 module _ (room : Room) (found : List (Found Configuration)) (n : ℕ) (t : T (roomTest room found n)) where
-  clock : Clock room (R room) (H room)
+  clock : Clock room (times room)
   unfolding roomTest
   clock = T-clock room (T-and _ _ (T-and _ _ t .1) .0)
 
@@ -160,8 +160,8 @@ module _ (room : Room) (found : List (Found Configuration)) (n : ℕ) (t : T (ro
   below : (c : Configuration) (m : ℕ) → T (test room c m) → m < bound room
   below c m u = below-of-bits m (room .jobs) (test-allowed room c m .0 u .engines .known)
 
-  counted : Counted room (R room) (H room) n
-  counted = subst (Counted room (R room) (H room)) (beginning-length _ (length found) ∙ size)
+  counted : Counted room (times room) n
+  counted = subst (Counted room (times room)) (beginning-length _ (length found) ∙ size)
       (certified-count limits clock (checked same same-eq (test room) (moves room) begin (bound room) below found right same-refl))
 
   in-centre : (l : List ℕ) → T (inside? same (test room) (moves room) begin found l) → Centre room l
@@ -179,10 +179,10 @@ module _ (room : Room) (found : List (Found Configuration)) (n : ℕ) (t : T (ro
       → masks ≡ trailMasks (mask room found) (leads room found) 0 b → length masks ≡ b → PlanIs room masks a
   plan-is masks a b v u e long =
       let plan = row-plan same same-eq (test room) (moves room) begin (bound room) below found right same-refl a b v u in
-      record { R = R room; H = H room; clock = clock; plan = plan-of limits clock (rw (long, e) plan) }
+      record { times = times room; clock = clock; plan = plan-of limits clock (rw (long, e) plan) }
 
   decided : (table₀ : List ℕ) → length table₀ ≤ most → n ≤ W table₀ → Decided room table₀ n
-  decided table₀ h w = record { limits = limits; lent = h; count = record { R = R room; H = H room; clock = clock; counted = counted }; fits = w }
+  decided table₀ h w = record { limits = limits; lent = h; count = record { times = times room; clock = clock; counted = counted }; fits = w }
 
   plan-good : (masks : List ℕ) (a c : ℕ) → T (goodTest room found masks a c) → Meets (planning room (planned.Good n a c) masks)
   unfolding goodTest

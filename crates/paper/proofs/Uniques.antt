@@ -17,12 +17,13 @@
 use Prim.Native.Nat.{ℕ, zero, suc, _+_, _≤_, _<_}
 use native.Mathlib.Omega.{arith}
 use native.Mathlib.Nat.{le-refl}
-use mathlib.Core.Path.{_≡_, refl, sym, ap, _∙_}
+use mathlib.Core.Path.{_≡_, refl, sym, ap, _∙_, subst}
 use mathlib.Core.Logic.{⊎-elim}
 use mathlib.Core.List.{List, [], _∷_, _++_, append-assoc}
 use lib.ListN.{length, take, drop, getD, length-append, take-append-drop}
 use lib.Seq.{take-suc, take-length, take-all}
 use Rattle.paper.specs.declared.Room.{Room}
+use Rattle.paper.specs.declared.Times.{Times}
 use Rattle.paper.specs.declared.Configuration.{Configuration}
 use Rattle.paper.specs.Room.{Multiple, Clock}
 use Rattle.paper.specs.Centre.{Centre, Feasible, Outside}
@@ -42,12 +43,12 @@ use Rattle.paper.proofs.Beginnings.{beginning-admissible}
 -- ---- Count and size
 
 module _ {room : Room} where
-  pub same-clock : (Q : ℕ → ℕ → Type 0) {R H R′ H′ : ℕ} → Clock room R H → Clock room R′ H′ → Q R H → Q R′ H′
-  same-clock Q c d q = let e = clock-one c d in rw (← e .0, ← e .1) q
+  pub same-clock : (Q : Times → Type 0) {times times′ : Times} → Clock room times → Clock room times′ → Q times → Q times′
+  same-clock Q c d q = subst Q (clock-one c d) q
 
   pub counted-one : One (CountIs room)
   counted-one n n′ x y =
-      let c = same-clock (λ R H. Counted room R H n) (x .clock) (y .clock) (x .counted) in
+      let c = same-clock (λ times. Counted room times n) (x .clock) (y .clock) (x .counted) in
       let d = y .counted in
       sym (c .size)
       ∙ same-length (c .distinct) (d .distinct) (λ k. (λ p. d .complete k (c .reached k p), λ p. c .complete k (d .reached k p)))
@@ -55,16 +56,16 @@ module _ {room : Room} where
 
   pub more-than-counted : {n w : ℕ} → CountIs room n → n ≤ w → ¬ Exceeds room w
   more-than-counted {n} {w} x h y =
-      let c = same-clock (λ R H. Counted room R H n) (x .clock) (y .clock) (x .counted) in
+      let c = same-clock (λ times. Counted room times n) (x .clock) (y .clock) (x .counted) in
       let m = y .more in
-      too-many (Reached room (y .R) (y .H)) w (m .distinct) (m .reached) (m .many) (c .all) (omega (arith, c .size)) (c .complete)
+      too-many (Reached room (y .times)) w (m .distinct) (m .reached) (m .many) (c .all) (omega (arith, c .size)) (c .complete)
 
 -- ---- The plan
 
 pub greatest-one : {room : Room} {l : List ℕ} → One (Greatest room l)
 greatest-one m m′ x y = omega (arith, x .greatest m′ (y .stays), y .greatest m (x .stays))
 
-module _ {room : Room} {R H : ℕ} {p p′ : List ℕ} {a a′ : ℕ} (x : Plan room R H p a) (y : Plan room R H p′ a′) where
+module _ {room : Room} {times : Times} {p p′ : List ℕ} {a a′ : ℕ} (x : Plan room times p a) (y : Plan room times p′ a′) where
   -- two plans go together as far as both go
   together-more : (t : ℕ) → t < length p → t < length p′ → take t p ≡ take t p′ → take (suc t) p ≡ take (suc t) p′
   together-more t h g e =
@@ -76,18 +77,18 @@ module _ {room : Room} {R H : ℕ} {p p′ : List ℕ} {a a′ : ℕ} (x : Plan 
   together (suc t) h g = together-more t (omega arith) (omega arith) (together t (omega arith) (omega arith))
 
   abbrev after : List ℕ → ℕ → Configuration
-  after l t = configuration room R H (take t l)
+  after l t = configuration room times (take t l)
 
   -- so the longer one meets a configuration twice where the shorter one does
   shorter-plan : length p ≤ length p′ → (p ≡ p′) × (a ≡ a′)
   shorter-plan h =
-      let s = first-along (after p) (after p′) (λ t l. ap (configuration room R H) (together t l (omega arith))) (x .turns) in
+      let s = first-along (after p) (after p′) (λ t l. ap (configuration room times) (together t l (omega arith))) (x .turns) in
       let u = first-unique (after p′) s (y .turns) in
       (sym (take-length p) ∙ together (length p) (le-refl (length p)) h ∙ take-all (length p) p′ (omega (arith, u .1)), u .0)
 
 pub plan-one : {room : Room} {p p′ : List ℕ} {a a′ : ℕ} → PlanIs room p a → PlanIs room p′ a′ → (p ≡ p′) × (a ≡ a′)
 plan-one {room} {p} {p′} {a} x y =
-    let z = same-clock (λ R H. Plan room R H p a) (x .clock) (y .clock) (x .plan) in
+    let z = same-clock (λ times. Plan room times p a) (x .clock) (y .clock) (x .plan) in
     ⊎-elim
     (λ (h : length p < length p′). shorter-plan z (y .plan) (omega arith))
     (λ (h : length p′ ≤ length p). let s = shorter-plan (y .plan) z h in (sym (s .0), sym (s .1)))

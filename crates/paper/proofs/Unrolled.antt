@@ -14,12 +14,13 @@ use mathlib.Core.List.{List, [], _++_, append-assoc, append-nil}
 use lib.ListN.{length, take, drop, getD, length-drop}
 use lib.Seq.{length-take-le, getD-take, getD-drop}
 use Rattle.paper.specs.declared.Room.{Room}
+use Rattle.paper.specs.declared.Times.{Times}
 use Rattle.paper.specs.Room.{Clock, Limits}
-use Rattle.paper.specs.Centre.{times, beginning, Endless, ForEver}
+use Rattle.paper.specs.Centre.{repeated, beginning, Endless, ForEver}
 use Rattle.paper.specs.Plan.{Greatest, Plan, unrolled}
 use Rattle.paper.specs.Means.{Singled}
 use Rattle.laws.specs.Lists.{row}
-use Rattle.laws.proofs.Lists.{row-add, row-list, beginning-at, take-beginning, beginning-length, times-more}
+use Rattle.laws.proofs.Lists.{row-add, row-list, beginning-at, take-beginning, beginning-length, repeated-more}
 use Rattle.paper.proofs.Beginnings.{take-admissible}
 use Rattle.paper.proofs.Steps.{position-early, position-at}
 use Rattle.paper.proofs.Plans.{Follows, plan-for-ever}
@@ -51,26 +52,26 @@ module _ (masks : List ℕ) (a : ℕ) (turns : a < length masks) where
       rw e at (row-list (unrolled masks a) (a + n * L) (drop a masks) 0
       (λ j h. unrolled-cycle n j (omega arith) ∙ sym (getD-drop a masks j 0)))
 
-  once-more : (n : ℕ) → beginning (unrolled masks a) (a + n * L) ≡ take a masks ++ times n (drop a masks)
-      → beginning (unrolled masks a) (a + (n + 1) * L) ≡ take a masks ++ times (n + 1) (drop a masks)
+  once-more : (n : ℕ) → beginning (unrolled masks a) (a + n * L) ≡ take a masks ++ repeated n (drop a masks)
+      → beginning (unrolled masks a) (a + (n + 1) * L) ≡ take a masks ++ repeated (n + 1) (drop a masks)
   unfolding beginning
   once-more n back =
       let e : a + (n + 1) * L ≡ a + n * L + L = omega (arith, suc-mul n L, add-one n) in
       ap (row (unrolled masks a) 0) e
       ∙ row-add (unrolled masks a) 0 (a + n * L) L
       ∙ ap₂ (λ (l k : List ℕ). l ++ k) back (ap (λ (i : ℕ). row (unrolled masks a) i L) (zero-add (a + n * L)) ∙ cycle-row n)
-      ∙ append-assoc (take a masks) (times n (drop a masks)) (drop a masks)
-      ∙ ap (λ (l : List ℕ). take a masks ++ l) (sym (times-more n (drop a masks)))
+      ∙ append-assoc (take a masks) (repeated n (drop a masks)) (drop a masks)
+      ∙ ap (λ (l : List ℕ). take a masks ++ l) (sym (repeated-more n (drop a masks)))
 
-  pub beginning-unrolled : (n : ℕ) → beginning (unrolled masks a) (a + n * L) ≡ take a masks ++ times n (drop a masks)
-  unfolding beginning times
+  pub beginning-unrolled : (n : ℕ) → beginning (unrolled masks a) (a + n * L) ≡ take a masks ++ repeated n (drop a masks)
+  unfolding beginning repeated
   beginning-unrolled zero =
       let e : a + 0 * L ≡ a = omega (arith, zero-mul L) in
       ap (row (unrolled masks a) 0) e ∙ prefix-row ∙ sym (append-nil (take a masks))
   beginning-unrolled (suc n) =
-      subst (λ (k : ℕ). beginning (unrolled masks a) (a + k * L) ≡ take a masks ++ times k (drop a masks)) (add-one n) (once-more n (beginning-unrolled n))
+      subst (λ (k : ℕ). beginning (unrolled masks a) (a + k * L) ≡ take a masks ++ repeated k (drop a masks)) (add-one n) (once-more n (beginning-unrolled n))
 
-  pub unrolled-cut : (n : ℕ) → beginning (unrolled masks a) n ≡ take n (take a masks ++ times n (drop a masks))
+  pub unrolled-cut : (n : ℕ) → beginning (unrolled masks a) n ≡ take n (take a masks ++ repeated n (drop a masks))
   unrolled-cut n =
       let h : 1 ≤ L = omega arith in
       let e = mul-le-mul-left n h in
@@ -81,7 +82,7 @@ module _ {room : Room} (masks : List ℕ) (a : ℕ) (turns : a < length masks) w
   for-ever-unrolled f n = rw (unrolled-cut masks a turns n) (take-admissible room _ n (f .keeps n))
 
   -- each mask is the greatest after the slots before it, where it is in every repetition
-  follows-unrolled : ((n : ℕ) → Follows room (take a masks ++ times n (drop a masks))) → (t : ℕ) → Greatest room (beginning (unrolled masks a) t) (unrolled masks a t)
+  follows-unrolled : ((n : ℕ) → Follows room (take a masks ++ repeated n (drop a masks))) → (t : ℕ) → Greatest room (beginning (unrolled masks a) t) (unrolled masks a t)
   follows-unrolled f t =
       let s = unrolled masks a in
       let long : t < a + (t + 1) * (length masks - a) = let h : 1 ≤ length masks - a = omega arith in let e = mul-le-mul-left (t + 1) h in omega arith in
@@ -89,7 +90,7 @@ module _ {room : Room} (masks : List ℕ) (a : ℕ) (turns : a < length masks) w
       rw (take-beginning s t (a + (t + 1) * (length masks - a)) (omega arith), beginning-at s (a + (t + 1) * (length masks - a)) 0 t long) at
       (g t (rw beginning-length long))
 
-pub plan-unrolled : {room : Room} → Limits room → {R H : ℕ} → Clock room R H → {masks : List ℕ} {a : ℕ} → Plan room R H masks a
+pub plan-unrolled : {room : Room} → Limits room → {times : Times} → Clock room times → {masks : List ℕ} {a : ℕ} → Plan room times masks a
     → Singled room (unrolled masks a)
 plan-unrolled limits clock {masks} {a} p =
     let f = plan-for-ever limits clock p in

@@ -16,6 +16,7 @@ use native.Mathlib.Omega.{arith}
 use mathlib.Core.Path.{_≡_, sym, ap, _∙_}
 use mathlib.Core.List.{List}
 use Rattle.paper.specs.declared.Room.{Room}
+use Rattle.paper.specs.declared.Times.{Times}
 use Rattle.paper.specs.declared.Job.{Job}
 use Rattle.paper.specs.declared.Configuration.{Configuration}
 use Rattle.paper.specs.Room.{job, section, link, first, load, deadline, period, GoodJob, GoodSection, GoodLink}
@@ -113,7 +114,7 @@ module _ {room room′ : Room} (same : SameUsed room room′) where
     same = omega (arith, first-used (x .known));
   }
 
-  pub clock-used : {R H : ℕ} → Clock room R H → Clock room′ R H
+  pub clock-used : {times : Times} → Clock room times → Clock room′ times
   clock-used x = search (greatest-first-used, all-multiple-used)
 
   pub limits-used : Limits room → Limits room′
@@ -144,9 +145,9 @@ module _ {room room′ : Room} (same : SameUsed room room′) where
       let s = start-used j k in
       omega (arith, load-used j, due-used j k, units-used j l k, x i k j (omega arith))
 
-  pub configuration-used : (R H : ℕ) (l : List ℕ) → configuration room R H l ≡ configuration room′ R H l
+  pub configuration-used : (times : Times) (l : List ℕ) → configuration room times l ≡ configuration room′ times l
   unfolding configuration sixteen
-  configuration-used R H l = let d = sixteen-same room (done room l) (done room′ l) (λ i h. done-used h l) in rw (d, same .jobs)
+  configuration-used times l = let d = sixteen-same room (done room l) (done room′ l) (λ i h. done-used h l) in rw (d, same .jobs)
 
 -- ---- Pasts
 
@@ -172,8 +173,8 @@ module _ {room room′ : Room} (same : SameUsed room room′) (limits : Limits r
   pub admissible-used : {l : List ℕ} → Admissible room l → Admissible room′ l
   admissible-used {l} x = record { slots = λ t h. slot-used (x .slots t h); end = end-rule-used same l (x .end) }
 
-  pub reached-used : {R H : ℕ} {c : Configuration} → Reached room R H c → Reached room′ R H c
-  reached-used {R} {H} x = search (admissible-used, ← configuration-used same R H (x .past))
+  pub reached-used : {times : Times} {c : Configuration} → Reached room times c → Reached room′ times c
+  reached-used {times} x = search (admissible-used, ← configuration-used same times (x .past))
 
   continues-used : {l : List ℕ} {n : ℕ} → Continues room l n → Continues room′ l n
   continues-used x = search admissible-used

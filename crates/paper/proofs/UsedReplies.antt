@@ -18,6 +18,7 @@ use mathlib.Core.Path.{_≡_}
 use mathlib.Core.List.{List}
 use lib.ListN.{take}
 use Rattle.paper.specs.declared.Room.{Room}
+use Rattle.paper.specs.declared.Times.{Times}
 use Rattle.paper.specs.declared.Configuration.{Configuration}
 use Rattle.paper.specs.declared.Refusal.{Refusal}
 use Rattle.paper.specs.declared.Refusal.the-variants as refusal
@@ -90,7 +91,7 @@ module _ {room room′ : Room} (same : SameUsed room room′) where
     centre-back : {l : List ℕ} → Centre room′ l → Centre room l
     centre-back x = centre-used back (limits-used same limits) x
 
-    reached-back : {R H : ℕ} {c : Configuration} → Reached room′ R H c → Reached room R H c
+    reached-back : {times : Times} {c : Configuration} → Reached room′ times c → Reached room times c
     reached-back x = reached-used back (limits-used same limits) x
 
     pub outside-used : {l : List ℕ} {n : ℕ} → Outside room l n → Outside room′ l n
@@ -107,7 +108,7 @@ module _ {room room′ : Room} (same : SameUsed room room′) where
 
     pub plan-is-used : {masks : List ℕ} {a : ℕ} → PlanIs room masks a → PlanIs room′ masks a
     plan-is-used {masks} x =
-        let t = first-along _ _ (λ t h. configuration-used same (x .R) (x .H) (take t masks)) (x .plan .turns) in
+        let t = first-along _ _ (λ t h. configuration-used same (x .times) (take t masks)) (x .plan .turns) in
         search (clock-used same, greatest-used, x .plan .follows)
 
   -- ---- The lent table

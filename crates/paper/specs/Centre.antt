@@ -10,7 +10,7 @@ use mathlib.Core.List.{List, [], _++_}
 use lib.ListN.{length, take}
 use Rattle.paper.specs.declared.Room.{Room}
 use Rattle.paper.specs.Past.{Admissible}
-unfoldable pub use Rattle.laws.specs.Lists.{times, beginning}
+unfoldable pub use Rattle.laws.specs.Lists.{repeated, beginning}
 
 -- an admissible continuation at least n slots long
 pub record Continues (room : Room) (l : List ℕ) (n : ℕ) : Type 0 where
@@ -40,4 +40,4 @@ Endless room s = (n : ℕ) → Admissible room (beginning s n)
 -- after the past l, a prefix and then a cycle, repeated for ever
 pub record ForEver (room : Room) (l prefix cycle : List ℕ) : Type 0 where
   pub turns : 0 < length cycle
-  pub keeps : (n : ℕ) → Admissible room (l ++ prefix ++ times n cycle)
+  pub keeps : (n : ℕ) → Admissible room (l ++ prefix ++ repeated n cycle)

@@ -28,6 +28,7 @@ use mathlib.Core.List.{List, _++_}
 use lib.ListN.{length, drop, replicate}
 use lib.Dec.{leb}
 use Rattle.paper.specs.declared.Room.{Room}
+use Rattle.paper.specs.declared.Times.{Times}
 use Rattle.paper.specs.declared.Numbers.{Numbers}
 use Rattle.paper.specs.declared.Refusal.{Refusal}
 use Rattle.paper.specs.declared.Refusal.the-variants as refusal
@@ -165,22 +166,19 @@ pub record Refused (room : Room) (r : Refusal) : Type 0 where
 -- ---- Count, plan and size, for the R and H of the room
 
 pub record CountIs (room : Room) (n : ℕ) : Type 0 where
-  pub R : ℕ
-  pub H : ℕ
-  pub clock : Clock room R H
-  pub counted : Counted room R H n
+  pub times : Times
+  pub clock : Clock room times
+  pub counted : Counted room times n
 
 pub record PlanIs (room : Room) (masks : List ℕ) (a : ℕ) : Type 0 where
-  pub R : ℕ
-  pub H : ℕ
-  pub clock : Clock room R H
-  pub plan : Plan room R H masks a
+  pub times : Times
+  pub clock : Clock room times
+  pub plan : Plan room times masks a
 
 pub record Exceeds (room : Room) (w : ℕ) : Type 0 where
-  pub R : ℕ
-  pub H : ℕ
-  pub clock : Clock room R H
-  pub more : MoreThan room R H w
+  pub times : Times
+  pub clock : Clock room times
+  pub more : MoreThan room times w
 
 -- ---- The lent memory
 

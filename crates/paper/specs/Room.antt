@@ -14,6 +14,7 @@ use mathlib.Core.Path.{_≡_}
 use mathlib.Core.Logic.{_≢_}
 use lib.ListN.{getD}
 use Rattle.paper.specs.declared.Room.{Room}
+use Rattle.paper.specs.declared.Times.{Times}
 use Rattle.paper.specs.declared.Job.{Job}
 use Rattle.paper.specs.declared.Section.{Section}
 use Rattle.paper.specs.declared.Link.{Link}
@@ -124,9 +125,9 @@ pub record GreatestFirst (room : Room) (R : ℕ) : Type 0 where
   pub same : first room which ≡ R
 
 -- R and H of a room, by which time positions go
-pub record Clock (room : Room) (R H : ℕ) : Type 0 where
-  pub greatest : GreatestFirst room R
-  pub multiple : Multiple room (room .jobs) H
+pub record Clock (room : Room) (times : Times) : Type 0 where
+  pub greatest : GreatestFirst room (times .first)
+  pub multiple : Multiple room (room .jobs) (times .multiple)
 
 -- none of the refusals 3 to 8 applies
 pub record Limits (room : Room) : Type 0 where
