@@ -35,7 +35,7 @@ use Rattle.paper.proofs.Lines.{line-length}
 use Rattle.digits.specs.Digits.{put, Puts}
 use Rattle.digits.proofs.Buffers.{put-none, put-more}
 use Rattle.answer.specs.Calls.{PlanOfText, broken, good}
-use Rattle.answer.specs.Lines.{slots, two, printed, Prints}
+use Rattle.answer.specs.Lines.{planSlots, two, printed, Prints}
 
 -- ---- A choice by a number
 
@@ -178,10 +178,10 @@ module _ (plan lines₀ : List ℕ) (at : ℕ) where
 -- ---- The parts together
 
 -- s is the number of slots, head the frame of the first line
-module _ (N : Numbers) (plan lines₀ : List ℕ) {s : ℕ} (same : s ≡ slots N) (within : s ≤ length plan) where
+module _ (N : Numbers) (plan lines₀ : List ℕ) {s : ℕ} (same : s ≡ planSlots N) (within : s ≤ length plan) where
   printed-length : length (printed N plan) ≡ 32 + 7 * s
   unfolding printed
-  printed-length = omega (arith, same, answer-length N (take (slots N) plan), length-take-le (slots N) plan (omega (arith, same)))
+  printed-length = omega (arith, same, answer-length N (take (planSlots N) plan), length-take-le (planSlots N) plan (omega (arith, same)))
 
   pub not-put : ¬ (32 + 7 * s ≤ length lines₀) → Prints (printed N plan) lines₀ 0 lines₀
   not-put h = record { fits = λ (k : length (printed N plan) ≤ length lines₀). absurd (h (omega (arith, printed-length))); short = λ _. (refl, refl) }
@@ -238,13 +238,13 @@ prints-within {lines} {buffer₀} {buffer} {n} p =
 
 -- ---- The plan lies in its buffer
 
-undecided-slots : (d : Undecided) → slots (undecidedNumbers d) ≡ 0
+undecided-slots : (d : Undecided) → planSlots (undecidedNumbers d) ≡ 0
 undecided-slots (undecided.Refused r) = refused-slots r
 undecided-slots undecided.Table = refl
 undecided-slots undecided.Room = refl
 
 planned-within : {room : Room} {table₀ plan₀ table plan : List ℕ} (r : Planned) → PlanReply room table₀ plan₀ r table plan
-    → slots (plannedNumbers r) ≤ length plan
+    → planSlots (plannedNumbers r) ≤ length plan
 planned-within {plan₀ = plan₀} (planned.Good n a c) x =
     let g = x .says in
     omega (arith, g .cycle, g .fits, ap length (g .buffer), length-append (g .masks) (drop (length (g .masks)) plan₀))
@@ -252,6 +252,6 @@ planned-within (planned.None n) x = omega arith
 planned-within (planned.Undecided d) x = omega (arith, undecided-slots d)
 planned-within (planned.Short i) x = omega arith
 
-pub slots-within : {text table₀ plan₀ table plan : List ℕ} {N : Numbers} → PlanOfText text table₀ plan₀ table plan N → slots N ≤ length plan
-slots-within (broken i room x e f) = omega (arith, ap slots e)
-slots-within (good room x y) = omega (arith, ap slots (y .told), planned-within (y .answer) (y .promised))
+pub slots-within : {text table₀ plan₀ table plan : List ℕ} {N : Numbers} → PlanOfText text table₀ plan₀ table plan N → planSlots N ≤ length plan
+slots-within (broken i room x e f) = omega (arith, ap planSlots e)
+slots-within (good room x y) = omega (arith, ap planSlots (y .told), planned-within (y .answer) (y .promised))

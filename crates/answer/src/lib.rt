@@ -9,7 +9,7 @@ ghost use Rattle.paper.specs.Text.{line};
 ghost use Rattle.paper.specs.Answer.{fourBytes, answerFrame, slotFrame};
 ghost use Rattle.digits.specs.Digits.{Puts};
 ghost use Rattle.answer.specs.Calls.{CheckOfText, PlanOfText, JudgeOfText};
-ghost use Rattle.answer.specs.Lines.{slots, two, printed, Prints, Answered};
+ghost use Rattle.answer.specs.Lines.{planSlots, two, printed, Prints, Answered};
 use paper::Numbers;
 use paper::Reading;
 
@@ -64,7 +64,7 @@ pub fn put_answer(text: &[u8], table: &mut [u64], plan: &mut [u16], lines: &mut 
 
 // The lines of a reply and of the plan in its buffer, where they fit.
 fn put_reply(numbers: Numbers, plan: &[u16], lines: &mut [u8]) -> usize
-    requires { ⌜ slots numbers ≤ length (now plan) ⌝ }
+    requires { ⌜ planSlots numbers ≤ length (now plan) ⌝ }
     ensures { λ n. ⌜ Prints (printed numbers (now (plan .entry))) (now (lines .entry)) n (now (lines .exit)) ⌝ }
 {
     let slots = slots_of(numbers, plan.len());
@@ -75,20 +75,20 @@ fn put_reply(numbers: Numbers, plan: &[u16], lines: &mut [u8]) -> usize
 }
 
 // The first line, the lines of the plan's slots, and `ff`.
-fn put_parts(numbers: Numbers, plan: &[u16], count: usize, lines: &mut [u8]) -> usize
-    requires { ⌜ (count ≡ slots numbers) × (count ≤ length (now plan)) × (32 + 7 * count ≤ length (now lines)) ⌝ }
+fn put_parts(numbers: Numbers, plan: &[u16], slots: usize, lines: &mut [u8]) -> usize
+    requires { ⌜ (slots ≡ planSlots numbers) × (slots ≤ length (now plan)) × (32 + 7 * slots ≤ length (now lines)) ⌝ }
     ensures { λ n. ⌜ Prints (printed numbers (now (plan .entry))) (now (lines .entry)) n (now (lines .exit)) ⌝ }
 {
     let head = head_of(numbers);
     let at = digits::put_line(lines, 0, &head[..]);
-    let next = put_slots(plan, count, lines, at);
+    let next = put_slots(plan, slots, lines, at);
     digits::put_ending(lines, next)
 }
 
 // How many slots the plan of a reply has, at most so many.
 fn slots_of(numbers: Numbers, most: usize) -> usize
-    requires { ⌜ slots numbers ≤ most ⌝ }
-    ensures { λ n. ⌜ n ≡ slots numbers ⌝ }
+    requires { ⌜ planSlots numbers ≤ most ⌝ }
+    ensures { λ n. ⌜ n ≡ planSlots numbers ⌝ }
 {
     numbers.prefix + numbers.cycle
 }
