@@ -23,12 +23,13 @@ use Rattle.paper.specs.Room.{Clock, Limits}
 use Rattle.paper.specs.Configuration.{MoreThan}
 use Rattle.paper.specs.Reply.{numbers, CheckReply, W, most, written, Decided, TooMany, PlanReply, JudgeReply}
 use Rattle.room.specs.declared.Times.{Times}
-use Rattle.members.specs.Marks.{lives, mask, leads}
+use Rattle.states.specs.View.{lives, mask, leads}
+use Rattle.states.proofs.Pruned.{table-count, table-feasible}
 use Rattle.follow.specs.declared.Turn.{Turn}
 use Rattle.follow.specs.declared.Followed.the-variants as followed
 use Rattle.follow.specs.Turns.{laid, Turned}
 use Rattle.follow.specs.Pasts.{Given, Judged}
-use Rattle.follow.proofs.Tables.{table-count, table-feasible, table-plan}
+use Rattle.follow.proofs.Tables.{table-plan}
 use Rattle.planner.specs.Calls.{PlanAnswers, JudgeAnswers}
 
 good-limits : (room : Room) (r : Reply) → CheckReply room r → numbers r .code ≡ 0 → Limits room
@@ -205,7 +206,7 @@ module _ {room : Room} {times : Times} {t : List ℕ} {w n : ℕ} (g : Given roo
     limits = g .limits;
     lent = lent;
     count = table-count (g .pruned) (g .limits) (g .clock);
-    fits = omega (arith, g .pruned .explored .holds .few);
+    fits = omega (arith, g .pruned .holds .few);
   }
 
   pub none-answer : (plan : List ℕ) → ¬ T (lives t w 0) → PlanAnswers room t plan (say.None n) plan

@@ -24,7 +24,7 @@ fn answer_plan(
     requires { ⌜ Given room times (now table) w n × (length (now table) ≤ most) × (w ≡ W (now table)) ⌝ }
     ensures { λ r. ⌜ PlanAnswers room (now (table .entry)) (now (plan .entry)) r (now (plan .exit)) ⌝ }
 {
-    if !members::lives(&table[..], w, 0) {
+    if !states::lives(&table[..], w, 0) {
         return Reply::None { count: n };
     }
     let turn = follow::find_turn(table, w, n);
