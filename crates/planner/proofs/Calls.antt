@@ -28,7 +28,7 @@ use Rattle.states.proofs.Pruned.{table-count, table-feasible}
 use Rattle.follow.specs.declared.Turn.{Turn}
 use Rattle.follow.specs.declared.Followed.the-variants as followed
 use Rattle.follow.specs.Turns.{laid, Turned}
-use Rattle.follow.specs.Pasts.{Given, Judged}
+use Rattle.follow.specs.Pasts.{Given, PastFollowed}
 use Rattle.follow.proofs.Tables.{table-plan}
 use Rattle.planner.specs.Calls.{PlanAnswers, JudgeAnswers}
 
@@ -244,8 +244,8 @@ module _ {room : Room} {times : Times} {t : List ℕ} {w n : ℕ} (g : Given roo
       buffer = e;
     }
 
-  pub past-answer : (past : List ℕ) → Judged room past followed.Kept → JudgeAnswers room past t (say.Good n 0 0 0)
+  pub past-answer : (past : List ℕ) → PastFollowed room past followed.Kept → JudgeAnswers room past t (say.Good n 0 0 0)
   past-answer past c = record { decided = given-decided; centre = c; place = refl; prefix = refl; cycle = refl }
 
-  pub lost-answer : (past : List ℕ) (k : ℕ) → Judged room past (followed.Lost k) → JudgeAnswers room past t (say.Out n k)
+  pub lost-answer : (past : List ℕ) (k : ℕ) → PastFollowed room past (followed.Lost k) → JudgeAnswers room past t (say.Out n k)
   lost-answer past k o = record { decided = given-decided; outside = o }
