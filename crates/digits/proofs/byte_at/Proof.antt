@@ -18,7 +18,10 @@ returns-4 : tie.Need-returns-4
 returns-4 c = byte-second-none (c .before .value2 .ensures) (c .if4 .taken)
 
 returns-5 : tie.Need-returns-5
-returns-5 c = byte-found (omega arith) (c .before .before .before .before .value .ensures) (c .before .value2 .ensures) (omega arith) (omega arith)
+returns-5 c =
+    let second = c .before in
+    let first = second .before .before in
+    byte-found (omega arith) (first .before .value .ensures) (second .value2 .ensures) (first .if3 .left) (c .if4 .left)
 
 pub byte-at-spec : {M : Type 1} → statement M
 byte-at-spec =

@@ -15,8 +15,14 @@ abbrev μ-loop : tie.MeasureT-loop
 loop-holds : tie.Need-loop-holds Inv-loop μ-loop
 loop-holds c = line-start _ _ _ (c .before .before .pre)
 
+-- the turn in which a byte was put
+abbrev turn : tie.After-put-byte Inv-loop μ-loop → tie.At-loop Inv-loop μ-loop
+turn c = c .before .before .before .before
+
 loop-again : tie.Need-loop-again Inv-loop μ-loop
-loop-again c = line-turn _ _ _ (search needs) (c .before .before .before .before .before .before .loop .inv) (search needs) (c .before .before .put-byte .ensures) (c .before .before .put-byte .kept .0)
+loop-again c =
+    let put = c .before .before in
+    line-turn _ _ _ (search needs) (turn put .loop .inv) (search needs) (put .put-byte .ensures) (put .put-byte .kept .0)
 
 returns : tie.Need-returns Inv-loop μ-loop
 returns c = line-end _ _ _ (search needs) (c .before .loop .inv) (search needs)

@@ -20,6 +20,10 @@ returns c = (λ f. absurd f, λ s. absurd (omega (arith, s .within)))
 returns-2 : tie.Need-returns-2 Inv-loop μ-loop
 returns-2 c = (λ f. absurd f, λ s. absurd (omega (arith, s .within)))
 
+-- the turn in which two bytes were the same
+abbrev inside : tie.Else3 Inv-loop μ-loop → tie.At-loop Inv-loop μ-loop
+inside c = c .before .before .before .before
+
 loop-holds : tie.Need-loop-holds Inv-loop μ-loop
 loop-holds c = (search needs, below-none _)
 
@@ -27,7 +31,7 @@ returns-3 : tie.Need-returns-3 Inv-loop μ-loop
 returns-3 c = (λ f. absurd f, λ s. absurd (c .if3 .taken (s .same _ (search needs))))
 
 loop-again : tie.Need-loop-again Inv-loop μ-loop
-loop-again c = (search needs, below-more _ _ (c .before .before .before .before .loop .inv .1) (c .if3 .left))
+loop-again c = (search needs, below-more _ _ (inside c .loop .inv .1) (c .if3 .left))
 
 returns-4 : tie.Need-returns-4 Inv-loop μ-loop
 returns-4 c = (λ _. record { within = omega arith; same = λ k h. c .before .loop .inv .1 k (omega arith) }, λ _. tt)
