@@ -10,8 +10,9 @@ use lib.ListN.{length, take, length-take}
 use lib.Seq.{take-all}
 use Rattle.laws.proofs.Tests.{lt-or-le}
 use Rattle.paper.specs.declared.Room.{Room}
-use Rattle.paper.specs.declared.Reply.{Reply}
-use Rattle.paper.specs.declared.Reply.the-variants as say
+use Rattle.paper.specs.declared.Numbers.{Numbers}
+use Rattle.paper.specs.declared.Reading.{Reading}
+use Rattle.paper.specs.declared.Reading.the-variants as reading
 use Rattle.paper.specs.Text.{FirstBadLine, Read}
 use Rattle.paper.specs.Reply.{ReadReply}
 use Rattle.paper.proofs.Texts.{good-short}
@@ -35,31 +36,14 @@ module _ (text : List ℕ) where
       (λ (h : length text ≤ 648). subst (λ (l : List ℕ). FirstBadLine l k) (whole (omega arith)) b)
       (lt-or-le 648 (length text))
 
-  pub read-near : (room : Room) (r : Reply) → ReadReply (take 649 text) r room → ReadReply text r room
-  read-near room (say.Good n i a c) x = record {
-    read = good-near room (x .read);
-    count = x .count;
-    place = x .place;
-    prefix = x .prefix;
-    cycle = x .cycle;
-  }
-  read-near room (say.None n) x = absurd x
-  read-near room (say.Text i) x = record { line = bad-near i (x .line); zeros = x .zeros }
-  read-near room say.Engines x = absurd x
-  read-near room say.Jobs x = absurd x
-  read-near room (say.Job i) x = absurd x
-  read-near room (say.Section i) x = absurd x
-  read-near room (say.Link i) x = absurd x
-  read-near room (say.Long i) x = absurd x
-  read-near room say.Table x = absurd x
-  read-near room say.Room x = absurd x
-  read-near room (say.Short i) x = absurd x
-  read-near room (say.Out n i) x = absurd x
+  pub read-near : (room : Room) (r : Reading) → ReadReply (take 649 text) r room → ReadReply text r room
+  read-near room reading.Good x = good-near room x
+  read-near room (reading.Text i) x = (bad-near i (x .0), x .1)
 
-  of-near : {Of : Room → Reply → Type 0} {Found : Type 0} (r : Reply) → OfText (take 649 text) Of Found r → OfText text Of Found r
-  of-near r (broken room x e f) = broken room (read-near room r x) e f
-  of-near r (good reading room x e y) = good reading room (read-near room reading x) e y
+  of-near : {Of : Room → Numbers → Type 0} {Found : Type 0} {N : Numbers} → OfText (take 649 text) Of Found N → OfText text Of Found N
+  of-near (broken i room x e f) = broken i room (read-near room (reading.Text i) x) e f
+  of-near (good room x y) = good room (read-near room reading.Good x) y
 
   pub answer-near : {table₀ plan₀ lines₀ : List ℕ} {n : ℕ} {table plan lines : List ℕ}
       → Answered (take 649 text) table₀ plan₀ lines₀ n table plan lines → Answered text table₀ plan₀ lines₀ n table plan lines
-  answer-near a = record { reply = a .reply; says = of-near (a .reply) (a .says); prints = a .prints }
+  answer-near a = record { numbers = a .numbers; says = of-near (a .says); prints = a .prints }

@@ -2,7 +2,7 @@
 --   zero-first, zero-else          a choice by whether a number is 0
 --   fits-by                        whether the lines fit, by a division
 --   slotLines                      the lines of a plan's slots
---   two, frameOf, frame-is         the first line from its parts
+--   frameOf, frame-is              the first line from its parts
 --   answer-length                  the first line has 29 bytes, each slot 7, and `ff` 3
 --   SlotsTo, slots-start, slots-turn, slots-end   the loop of `put_slots`
 --   not-put, slots-fit, ending-fits, parts-put   no room for the lines; or room for each part, and the parts put
@@ -22,16 +22,20 @@ use lib.Dec.{T, eqb, leb, leb→le, le→leb}
 use lib.Seq.{take-suc, length-take-le}
 use Rattle.laws.proofs.Tests.{lt-or-le}
 use Rattle.paper.specs.declared.Room.{Room}
-use Rattle.paper.specs.declared.Reply.{Reply}
-use Rattle.paper.specs.declared.Reply.the-variants as say
+use Rattle.paper.specs.declared.Numbers.{Numbers}
+use Rattle.paper.specs.declared.Undecided.{Undecided}
+use Rattle.paper.specs.declared.Undecided.the-variants as undecided
+use Rattle.paper.specs.declared.Planned.{Planned}
+use Rattle.paper.specs.declared.Planned.the-variants as planned
 use Rattle.paper.specs.Text.{line, ending}
-use Rattle.paper.specs.Reply.{Numbers, numbers, written, PlanReply}
+use Rattle.paper.specs.Reply.{undecidedNumbers, plannedNumbers, PlanReply}
 use Rattle.paper.specs.Answer.{twoBytes, fourBytes, answerFrame, slotFrame, answer}
+use Rattle.paper.proofs.Refusals.{refused-slots}
 use Rattle.paper.proofs.Lines.{line-length}
 use Rattle.digits.specs.Digits.{put, Puts}
 use Rattle.digits.proofs.Buffers.{put-none, put-more}
-use Rattle.answer.specs.Calls.{five, OfText, PlanOfText, broken, good}
-use Rattle.answer.specs.Lines.{planned, printed, Prints}
+use Rattle.answer.specs.Calls.{PlanOfText, broken, good}
+use Rattle.answer.specs.Lines.{planSlots, two, printed, Prints}
 
 -- ---- A choice by a number
 
@@ -73,10 +77,6 @@ slotLines-length (m ∷ masks) =
 -- ---- The first line
 
 module _ (N : Numbers) where
-  -- prefix and cycle, or place and 0
-  abbrev pub two : List ℕ
-  two = cond (eqb (N .code) 0) (N .prefix ∷ N .cycle ∷ []) (N .place ∷ 0 ∷ [])
-
   abbrev pub frameOf : ℕ → List ℕ → List ℕ → List ℕ → List ℕ
   frameOf code a b c =
       0xf0
@@ -95,7 +95,7 @@ module _ (N : Numbers) where
       ∷ getD c 3 0
       ∷ []
 
-  frame-parts : frameOf (N .code) (fourBytes (N .count)) (fourBytes (getD two 0 0)) (fourBytes (getD two 1 0)) ≡ answerFrame N
+  frame-parts : frameOf (N .code) (fourBytes (N .count)) (fourBytes (getD (two N) 0 0)) (fourBytes (getD (two N) 1 0)) ≡ answerFrame N
   unfolding answerFrame fourBytes twoBytes
   frame-parts = go (eqb (N .code) 0)
     where
@@ -118,22 +118,12 @@ module _ (N : Numbers) where
       omega (arith, ap length e, length-append (a ++ s) ending, length-append a s, line-length (answerFrame N), frame-length, slotLines-length masks)
 
 -- the first line, from the parts that `head_of` has
-pub frame-is : (r : Reply) {code : ℕ} {f t a b c : List ℕ} → f ≡ five (numbers r)
-    → t ≡ cond (eqb (getD f 0 0) 0) (getD f 3 0 ∷ getD f 4 0 ∷ []) (getD f 2 0 ∷ 0 ∷ [])
-    → a ≡ fourBytes (getD f 1 0) → b ≡ fourBytes (getD t 0 0) → c ≡ fourBytes (getD t 1 0) → code ≡ numbers r .code
-    → frameOf (numbers r) code a b c ≡ answerFrame (numbers r)
-frame-is r {code} {f} {t} {a} {b} {c} e u x y z k =
-    let w : t ≡ two (numbers r) =
-    u ∙ ap (λ (l : List ℕ). cond (eqb (getD l 0 0) 0) (getD l 3 0 ∷ getD l 4 0 ∷ []) (getD l 2 0 ∷ 0 ∷ [])) e
-    in
-    let x′ : a ≡ fourBytes (numbers r .count) = x ∙ ap (λ (l : List ℕ). fourBytes (getD l 1 0)) e in
-    let y′ : b ≡ fourBytes (getD (two (numbers r)) 0 0) = y ∙ ap (λ (l : List ℕ). fourBytes (getD l 0 0)) w in
-    let z′ : c ≡ fourBytes (getD (two (numbers r)) 1 0) = z ∙ ap (λ (l : List ℕ). fourBytes (getD l 1 0)) w in
-    (λ i. frameOf (numbers r) (k i) (x′ i) (y′ i) (z′ i)) ∙ frame-parts (numbers r)
-
--- the slots of a reply, from its numbers
-pub slots-sum : (r : Reply) {f : List ℕ} → f ≡ five (numbers r) → getD f 3 0 + getD f 4 0 ≡ planned r
-slots-sum r e = ap (λ (l : List ℕ). getD l 3 0 + getD l 4 0) e
+pub frame-is : (N : Numbers) {t a b c : List ℕ} → t ≡ two N → a ≡ fourBytes (N .count) → b ≡ fourBytes (getD t 0 0) → c ≡ fourBytes (getD t 1 0)
+    → frameOf N (N .code) a b c ≡ answerFrame N
+frame-is N {t} {a} {b} {c} w x y z =
+    let y′ : b ≡ fourBytes (getD (two N) 0 0) = y ∙ ap (λ (l : List ℕ). fourBytes (getD l 0 0)) w in
+    let z′ : c ≡ fourBytes (getD (two N) 1 0) = z ∙ ap (λ (l : List ℕ). fourBytes (getD l 1 0)) w in
+    (λ i. frameOf N (N .code) (x i) (y′ i) (z′ i)) ∙ frame-parts N
 
 -- ---- The slots of a plan, one after another
 
@@ -188,18 +178,18 @@ module _ (plan lines₀ : List ℕ) (at : ℕ) where
 -- ---- The parts together
 
 -- s is the number of slots, head the frame of the first line
-module _ (r : Reply) (plan lines₀ : List ℕ) {s : ℕ} (same : s ≡ planned r) (within : s ≤ length plan) where
-  printed-length : length (printed r plan) ≡ 32 + 7 * s
+module _ (N : Numbers) (plan lines₀ : List ℕ) {s : ℕ} (same : s ≡ planSlots N) (within : s ≤ length plan) where
+  printed-length : length (printed N plan) ≡ 32 + 7 * s
   unfolding printed
-  printed-length = omega (arith, same, answer-length (numbers r) (take (planned r) plan), length-take-le (planned r) plan (omega (arith, same)))
+  printed-length = omega (arith, same, answer-length N (take (planSlots N) plan), length-take-le (planSlots N) plan (omega (arith, same)))
 
-  pub not-put : ¬ (32 + 7 * s ≤ length lines₀) → Prints (printed r plan) lines₀ 0 lines₀
-  not-put h = record { fits = λ (k : length (printed r plan) ≤ length lines₀). absurd (h (omega (arith, printed-length))); short = λ _. (refl, refl) }
+  pub not-put : ¬ (32 + 7 * s ≤ length lines₀) → Prints (printed N plan) lines₀ 0 lines₀
+  not-put h = record { fits = λ (k : length (printed N plan) ≤ length lines₀). absurd (h (omega (arith, printed-length))); short = λ _. (refl, refl) }
 
-  module _ (room : 32 + 7 * s ≤ length lines₀) {head : List ℕ} (h : head ≡ answerFrame (numbers r)) {n₁ : ℕ} {l₁ : List ℕ}
+  module _ (room : 32 + 7 * s ≤ length lines₀) {head : List ℕ} (h : head ≡ answerFrame N) {n₁ : ℕ} {l₁ : List ℕ}
       (p : Puts lines₀ 0 (line head) n₁ l₁) where
     first-line : n₁ ≡ 29
-    first-line = omega (arith, p .place, line-length head, ap length h, frame-length (numbers r))
+    first-line = omega (arith, p .place, line-length head, ap length h, frame-length N)
 
     pub slots-fit : length l₁ ≡ length lines₀ → n₁ + 7 * s ≤ length l₁
     slots-fit e = omega (arith, first-line)
@@ -208,12 +198,12 @@ module _ (r : Reply) (plan lines₀ : List ℕ) {s : ℕ} (same : s ≡ planned 
       pub ending-fits : length l₁ ≡ length lines₀ → length l₂ ≡ length l₁ → n₂ + 3 ≤ length l₂
       ending-fits e e′ = omega (arith, first-line, q .place, slotLines-length (take s plan), length-take-le s plan within)
 
-      pub parts-put : {n₃ : ℕ} {l₃ : List ℕ} → Puts l₂ n₂ ending n₃ l₃ → Prints (printed r plan) lines₀ n₃ l₃
+      pub parts-put : {n₃ : ℕ} {l₃ : List ℕ} → Puts l₂ n₂ ending n₃ l₃ → Prints (printed N plan) lines₀ n₃ l₃
       unfolding printed answer
       parts-put {n₃} {l₃} e =
           let a = line head in
           let t = slotLines (take s plan) in
-          let whole : a ++ t ++ ending ≡ printed r plan = λ i. line (h i) ++ slotLines (take (same i) plan) ++ ending in
+          let whole : a ++ t ++ ending ≡ printed N plan = λ i. line (h i) ++ slotLines (take (same i) plan) ++ ending in
           let n = ap length whole ∙ printed-length in
           let b = length-append (a ++ t) ending in
           let d = length-append a t in
@@ -248,39 +238,20 @@ prints-within {lines} {buffer₀} {buffer} {n} p =
 
 -- ---- The plan lies in its buffer
 
-module _ {room : Room} {table₀ plan₀ table plan : List ℕ} where
-  planned-within : (r : Reply) → PlanReply room table₀ plan₀ r table plan → planned r ≤ length plan
-  planned-within (say.Good n i a c) x =
-      let g = x .says in
-      omega (arith, g .cycle, g .fits, ap length (g .buffer), length-append (g .masks) (drop (length (g .masks)) plan₀))
-  planned-within (say.None n) x = omega arith
-  planned-within (say.Text i) x = omega arith
-  planned-within say.Engines x = omega arith
-  planned-within say.Jobs x = omega arith
-  planned-within (say.Job i) x = omega arith
-  planned-within (say.Section i) x = omega arith
-  planned-within (say.Link i) x = omega arith
-  planned-within (say.Long i) x = omega arith
-  planned-within say.Table x = omega arith
-  planned-within say.Room x = omega arith
-  planned-within (say.Short i) x = omega arith
-  planned-within (say.Out n i) x = omega arith
+undecided-slots : (d : Undecided) → planSlots (undecidedNumbers d) ≡ 0
+undecided-slots (undecided.Refused r) = refused-slots r
+undecided-slots undecided.Table = refl
+undecided-slots undecided.Room = refl
 
-no-slots : (r : Reply) → numbers r .code ≢ 0 → planned r ≡ 0
-no-slots (say.Good n i a c) e = absurd (e refl)
-no-slots (say.None n) e = refl
-no-slots (say.Text i) e = refl
-no-slots say.Engines e = refl
-no-slots say.Jobs e = refl
-no-slots (say.Job i) e = refl
-no-slots (say.Section i) e = refl
-no-slots (say.Link i) e = refl
-no-slots (say.Long i) e = refl
-no-slots say.Table e = refl
-no-slots say.Room e = refl
-no-slots (say.Short i) e = refl
-no-slots (say.Out n i) e = refl
+planned-within : {room : Room} {table₀ plan₀ table plan : List ℕ} (r : Planned) → PlanReply room table₀ plan₀ r table plan
+    → planSlots (plannedNumbers r) ≤ length plan
+planned-within {plan₀ = plan₀} (planned.Good n a c) x =
+    let g = x .says in
+    omega (arith, g .cycle, g .fits, ap length (g .buffer), length-append (g .masks) (drop (length (g .masks)) plan₀))
+planned-within (planned.None n) x = omega arith
+planned-within (planned.Undecided d) x = omega (arith, undecided-slots d)
+planned-within (planned.Short i) x = omega arith
 
-pub slots-within : {text table₀ plan₀ table plan : List ℕ} (r : Reply) → PlanOfText text table₀ plan₀ table plan r → planned r ≤ length plan
-slots-within r (broken room x e f) = omega (arith, no-slots r (λ z. absurd (omega arith)))
-slots-within r (good reading room x e y) = planned-within r y
+pub slots-within : {text table₀ plan₀ table plan : List ℕ} {N : Numbers} → PlanOfText text table₀ plan₀ table plan N → planSlots N ≤ length plan
+slots-within (broken i room x e f) = omega (arith, ap planSlots e)
+slots-within (good room x y) = omega (arith, ap planSlots (y .told), planned-within (y .answer) (y .promised))

@@ -1,79 +1,55 @@
-// The answer to a room text: the reply of the planner, its numbers, and the lines that the program prints for it.
+// The answer to a room text: the numbers of the planner's reply, and the lines that the program prints for it.
 ghost use Prim.Native.Nat.{_+_, _*_, _≤_};
 ghost use mathlib.Core.Path.{_≡_};
-ghost use mathlib.Core.Bool.{cond};
-ghost use mathlib.Core.List.{[], _∷_, map, flatten};
+ghost use mathlib.Core.List.{map, flatten};
 ghost use mathlib.Core.Logic.{_↔_};
-ghost use lib.ListN.{length, take, getD};
-ghost use lib.Dec.{T, eqb};
-ghost use Rattle.paper.specs.Reply.{numbers};
+ghost use lib.ListN.{length, take};
+ghost use lib.Dec.{T};
 ghost use Rattle.paper.specs.Text.{line};
 ghost use Rattle.paper.specs.Answer.{fourBytes, answerFrame, slotFrame};
 ghost use Rattle.digits.specs.Digits.{Puts};
-ghost use Rattle.answer.specs.Calls.{five, CheckOfText, PlanOfText, JudgeOfText};
-ghost use Rattle.answer.specs.Lines.{planned, printed, Prints, Answered};
-use paper::Reply;
+ghost use Rattle.answer.specs.Calls.{CheckOfText, PlanOfText, JudgeOfText};
+ghost use Rattle.answer.specs.Lines.{planSlots, two, printed, Prints, Answered};
+use paper::Numbers;
+use paper::Reading;
 
 // The reply to checking the room of a text.
-pub fn check_of(text: &[u8]) -> Reply
-    ensures { λ r. ⌜ CheckOfText (now (text .entry)) r ⌝ }
+pub fn check_of(text: &[u8]) -> Numbers
+    ensures { λ n. ⌜ CheckOfText (now (text .entry)) n ⌝ }
 {
-    let reading = text::read(text);
-    let reply = reading.reply;
-    if room::code(reply) != 0 {
-        return reply;
+    let read = text::read(text);
+    let reading = read.reply;
+    if let Reading::Text { place: _ } = reading {
+        return reply::of_reading(reading);
     }
-    planner::check(reading.room)
+    let checked = planner::check(read.room);
+    reply::of_checked(checked)
 }
 
 // The reply to planning the room of a text.
-pub fn plan_of(text: &[u8], table: &mut [u64], plan: &mut [u16]) -> Reply
-    ensures { λ r. ⌜ PlanOfText (now (text .entry)) (now (table .entry)) (now (plan .entry)) (now (table .exit)) (now (plan .exit)) r ⌝ }
+pub fn plan_of(text: &[u8], table: &mut [u64], plan: &mut [u16]) -> Numbers
+    ensures { λ n. ⌜ PlanOfText (now (text .entry)) (now (table .entry)) (now (plan .entry)) (now (table .exit)) (now (plan .exit)) n ⌝ }
 {
-    let reading = text::read(text);
-    let reply = reading.reply;
-    if room::code(reply) != 0 {
-        return reply;
+    let read = text::read(text);
+    let reading = read.reply;
+    if let Reading::Text { place: _ } = reading {
+        return reply::of_reading(reading);
     }
-    planner::plan(reading.room, table, plan)
+    let planned = planner::plan(read.room, table, plan);
+    reply::of_planned(planned)
 }
 
 // The reply to judging a past of the room of a text.
-pub fn judge_of(text: &[u8], table: &mut [u64], past: &[u16]) -> Reply
-    ensures { λ r. ⌜ JudgeOfText (now (text .entry)) (now (past .entry)) (now (table .entry)) (now (table .exit)) r ⌝ }
+pub fn judge_of(text: &[u8], table: &mut [u64], past: &[u16]) -> Numbers
+    ensures { λ n. ⌜ JudgeOfText (now (text .entry)) (now (past .entry)) (now (table .entry)) (now (table .exit)) n ⌝ }
 {
-    let reading = text::read(text);
-    let reply = reading.reply;
-    if room::code(reply) != 0 {
-        return reply;
+    let read = text::read(text);
+    let reading = read.reply;
+    if let Reading::Text { place: _ } = reading {
+        return reply::of_reading(reading);
     }
-    planner::judge(reading.room, table, past)
-}
-
-// The numbers of a reply: code, count, place, prefix, cycle.
-pub fn five_of(reply: Reply) -> [u64; 5]
-    ensures { λ n. ⌜ n ≡ five (numbers reply) ⌝ }
-{
-    match reply {
-        Reply::Good {
-            count,
-            place,
-            prefix,
-            cycle,
-        } => [0, count as u64, place as u64, prefix as u64, cycle as u64],
-        Reply::None { count } => [1, count as u64, 0, 0, 0],
-        Reply::Text { place } => [2, 0, place as u64, 0, 0],
-        Reply::Engines => [3, 0, 0, 0, 0],
-        Reply::Jobs => [4, 0, 0, 0, 0],
-        Reply::Job { place } => [5, 0, place as u64, 0, 0],
-        Reply::Section { place } => [6, 0, place as u64, 0, 0],
-        Reply::Link { place } => [7, 0, place as u64, 0, 0],
-        Reply::Long { place } => [8, 0, place as u64, 0, 0],
-        Reply::Table => [9, 0, 0, 0, 0],
-        Reply::Room => [10, 0, 0, 0, 0],
-        Reply::Short { place } => [11, 0, place as u64, 0, 0],
-        Reply::Out { count, place } => [12, count as u64, place as u64, 0, 0],
-    }
+    let judged = planner::judge(read.room, table, past);
+    reply::of_judged(judged)
 }
 
 // Plans the room of a text, and puts the lines of the answer at the start of a buffer: how many bytes they take, or 0 where they
@@ -82,40 +58,39 @@ pub fn put_answer(text: &[u8], table: &mut [u64], plan: &mut [u16], lines: &mut 
     ensures { λ n. ⌜ Answered (now (text .entry)) (now (table .entry)) (now (plan .entry)) (now (lines .entry)) n
         (now (table .exit)) (now (plan .exit)) (now (lines .exit)) ⌝ }
 {
-    let reply = plan_of(text, table, plan);
-    put_reply(reply, &plan[..], lines)
+    let numbers = plan_of(text, table, plan);
+    put_reply(numbers, &plan[..], lines)
 }
 
 // The lines of a reply and of the plan in its buffer, where they fit.
-fn put_reply(reply: Reply, plan: &[u16], lines: &mut [u8]) -> usize
-    requires { ⌜ planned reply ≤ length (now plan) ⌝ }
-    ensures { λ n. ⌜ Prints (printed reply (now (plan .entry))) (now (lines .entry)) n (now (lines .exit)) ⌝ }
+fn put_reply(numbers: Numbers, plan: &[u16], lines: &mut [u8]) -> usize
+    requires { ⌜ planSlots numbers ≤ length (now plan) ⌝ }
+    ensures { λ n. ⌜ Prints (printed numbers (now (plan .entry))) (now (lines .entry)) n (now (lines .exit)) ⌝ }
 {
-    let slots = slots_of(reply, plan.len());
+    let slots = slots_of(numbers, plan.len());
     if fits(slots, lines.len()) {
-        return put_parts(reply, plan, slots, lines);
+        return put_parts(numbers, plan, slots, lines);
     }
     0
 }
 
 // The first line, the lines of the plan's slots, and `ff`.
-fn put_parts(reply: Reply, plan: &[u16], slots: usize, lines: &mut [u8]) -> usize
-    requires { ⌜ (slots ≡ planned reply) × (slots ≤ length (now plan)) × (32 + 7 * slots ≤ length (now lines)) ⌝ }
-    ensures { λ n. ⌜ Prints (printed reply (now (plan .entry))) (now (lines .entry)) n (now (lines .exit)) ⌝ }
+fn put_parts(numbers: Numbers, plan: &[u16], slots: usize, lines: &mut [u8]) -> usize
+    requires { ⌜ (slots ≡ planSlots numbers) × (slots ≤ length (now plan)) × (32 + 7 * slots ≤ length (now lines)) ⌝ }
+    ensures { λ n. ⌜ Prints (printed numbers (now (plan .entry))) (now (lines .entry)) n (now (lines .exit)) ⌝ }
 {
-    let head = head_of(reply);
+    let head = head_of(numbers);
     let at = digits::put_line(lines, 0, &head[..]);
     let next = put_slots(plan, slots, lines, at);
     digits::put_ending(lines, next)
 }
 
 // How many slots the plan of a reply has, at most so many.
-fn slots_of(reply: Reply, most: usize) -> usize
-    requires { ⌜ planned reply ≤ most ⌝ }
-    ensures { λ n. ⌜ n ≡ planned reply ⌝ }
+fn slots_of(numbers: Numbers, most: usize) -> usize
+    requires { ⌜ planSlots numbers ≤ most ⌝ }
+    ensures { λ n. ⌜ n ≡ planSlots numbers ⌝ }
 {
-    let five = five_of(reply);
-    (five[3] + five[4]) as usize
+    numbers.prefix + numbers.cycle
 }
 
 // Whether the lines of a reply with so many slots fit into a buffer of a length.
@@ -129,7 +104,7 @@ fn fits(slots: usize, length: usize) -> bool
 }
 
 // A number in four bytes, highest byte first.
-fn four(x: u64) -> [u8; 4]
+fn four(x: usize) -> [u8; 4]
     ensures { λ r. ⌜ r ≡ fourBytes x ⌝ }
 {
     [
@@ -141,28 +116,26 @@ fn four(x: u64) -> [u8; 4]
 }
 
 // The two numbers after the count: prefix and cycle on code 0, else place and 0.
-fn two_of(five: [u64; 5]) -> [u64; 2]
-    ensures { λ r. ⌜ r ≡ cond (eqb (getD five 0 0) 0) (getD five 3 0 ∷ getD five 4 0 ∷ []) (getD five 2 0 ∷ 0 ∷ []) ⌝ }
+fn two_of(numbers: Numbers) -> [usize; 2]
+    ensures { λ r. ⌜ r ≡ two numbers ⌝ }
 {
-    if five[0] == 0 {
-        return [five[3], five[4]];
+    if numbers.code == 0 {
+        return [numbers.prefix, numbers.cycle];
     }
-    [five[2], 0]
+    [numbers.place, 0]
 }
 
 // The frame of the first line: `f0`, code, count and two numbers.
-fn head_of(reply: Reply) -> [u8; 14]
-    ensures { λ r. ⌜ r ≡ answerFrame (numbers reply) ⌝ }
+fn head_of(numbers: Numbers) -> [u8; 14]
+    ensures { λ r. ⌜ r ≡ answerFrame numbers ⌝ }
 {
-    let five = five_of(reply);
-    let two = two_of(five);
-    let a = four(five[1]);
+    let two = two_of(numbers);
+    let a = four(numbers.count);
     let b = four(two[0]);
     let c = four(two[1]);
-    let code = room::code(reply);
     [
         0xf0,
-        code,
+        numbers.code,
         a[0],
         a[1],
         a[2],

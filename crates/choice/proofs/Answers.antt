@@ -1,5 +1,6 @@
 -- What `greatest` and `below` answer for a proper law is right. Where no job is hot the law is that of the quiet relation, by
 -- which the code went.
+--   Split                            m keeps the law, and x is its jobs that need not run
 --   greatest-nothing                 no mask keeps the law
 --   ready-of                         a law that a mask keeps is ready
 --   greatest-few                     the jobs that must run leave `left` engines
@@ -23,6 +24,11 @@ use Rattle.laws.proofs.Choices.{filling-first, filling-next, none-next, candida
 use Rattle.choice.specs.declared.Law.{Law}
 use Rattle.choice.specs.Laws.{clashes, quiet, KeepsLaw, Ready, Proper, Fills}
 use Rattle.choice.proofs.Loops.{without-none}
+
+pub record Split (law : Law) (m x : ℕ) : Type 0 where
+  pub proper : Proper law
+  pub keeps : KeepsLaw law m
+  pub others : Without m (law .must) x
 
 quiet-mutual : Mutual quiet
 quiet-mutual = record { both = λ i j o. never (zero-bit j) o; other = zero-bit }
@@ -86,11 +92,17 @@ module _ (law : Law) where
         greatest-next must may clash engines r .1
         (next-agree must may engines quiet clash (agree-back e) (fills must may engines (2 ^ 16) quiet-mutual h))
 
-  -- ---- The answers of `below`: x is the jobs of m that need not run
+  -- ---- The answers of `below`
 
-  module _ (proper : Proper law) (m x : ℕ) (a : KeepsLaw law m) (w : Without m must x) where
+  module _ {m x : ℕ} (split : Split law m x) where
+    a : KeepsLaw law m
+    a = split .keeps
+
+    w : Without m must x
+    w = split .others
+
     p : Ready law
-    p = ready-of proper a
+    p = ready-of (split .proper) a
 
     pub next-nothing : x ≡ 0 → NoneBelow must may clash engines m
     next-nothing e = none-next must may clash engines m x a w e

@@ -9,7 +9,7 @@ use Prim.Native.Nat.{ℕ, zero, suc, _+_, _*_, _/_, _%_, _≤_, _<_}
 use native.Mathlib.Omega.{arith}
 use native.Mathlib.Nat.{add-zero, le-refl}
 use mathlib.Core.Path.{_≡_, sym, ap, _∙_, subst}
-use mathlib.Core.Logic.{⊎-elim}
+use mathlib.Core.Logic.{_≢_, ⊎-elim}
 use mathlib.Core.List.{List, [], _∷_}
 use lib.ListN.{length, getD}
 use Rattle.laws.proofs.Tests.{lt-or-le}
@@ -17,11 +17,11 @@ use Rattle.paper.specs.Text.{digit, twoDigits, ending}
 use Rattle.paper.proofs.Digits.{value, value-digit, digit-value, byte, byte-first-bad, byte-second-bad, byte-yes, byte-digits, digits-byte}
 use Rattle.paper.proofs.Digits.{twoDigits-length}
 use Rattle.paper.proofs.Lines.{byteAt, byteAt-beyond, line-at-none, line-within, Ending, ending-within}
-use Rattle.digits.specs.Digits.{DigitValue, Stands, ByteAt}
+use Rattle.digits.specs.Digits.{noDigit, noByte, DigitValue, Stands, ByteAt}
 
 -- ---- One digit
 
-pub value-says : (b : ℕ) {v : ℕ} → value b ≡ v → v ≤ 16 → DigitValue b v
+pub value-says : (b : ℕ) {v : ℕ} → value b ≡ v → v ≤ noDigit → DigitValue b v
 value-says b e l = record {
   most = l;
   found = λ h. subst (λ (x : ℕ). digit x ≡ b) e (digit-value b (omega arith));
@@ -30,7 +30,7 @@ value-says b e l = record {
 
 -- ---- Two digits
 
-byte-most : (a b : ℕ) → byte a b ≤ 256
+byte-most : (a b : ℕ) → byte a b ≤ noByte
 byte-most a b = ⊎-elim
     (λ (g : value a < 16). ⊎-elim
     (λ (h : value b < 16). omega (arith, byte-yes a b g h))
@@ -53,31 +53,33 @@ module _ {text : List ℕ} {at : ℕ} where
   unfolding twoDigits
   stand-two x s = (rw add-zero at (s .same 0 (omega arith)), s .same 1 (omega arith))
 
-  no-byte : ((y : ℕ) → y < 256 → ¬ Stands text at (twoDigits y)) → ByteAt text at 256
-  no-byte n = record { most = le-refl 256; found = λ h. absurd (omega arith); none = λ _. n }
+  no-byte : ((y : ℕ) → y < noByte → ¬ Stands text at (twoDigits y)) → ByteAt text at noByte
+  no-byte n = record { most = le-refl noByte; found = λ h. absurd (omega arith); none = λ _. n }
 
-  pub byte-beyond : length text < at + 2 → ByteAt text at 256
+  pub byte-beyond : length text < at + 2 → ByteAt text at noByte
   byte-beyond h = no-byte (λ y l s. omega (arith, s .within, twoDigits-length y))
 
   module _ {v : ℕ} where
-    pub byte-first-none : DigitValue (getD text at 0) v → 15 < v → ByteAt text at 256
-    byte-first-none d h = no-byte (λ y l s. d .none (omega (arith, d .most)) (y / 16) (omega arith) (sym (stand-two y s .0)))
+    pub byte-first-none : DigitValue (getD text at 0) v → v ≡ noDigit → ByteAt text at noByte
+    byte-first-none d h = no-byte (λ y l s. d .none h (y / 16) (omega arith) (sym (stand-two y s .0)))
 
-    pub byte-second-none : DigitValue (getD text (at + 1) 0) v → 15 < v → ByteAt text at 256
-    byte-second-none d h = no-byte (λ y l s. d .none (omega (arith, d .most)) (y % 16) (omega arith) (sym (stand-two y s .1)))
+    pub byte-second-none : DigitValue (getD text (at + 1) 0) v → v ≡ noDigit → ByteAt text at noByte
+    byte-second-none d h = no-byte (λ y l s. d .none h (y % 16) (omega arith) (sym (stand-two y s .1)))
 
-    pub byte-found : {w : ℕ} → at + 2 ≤ length text → DigitValue (getD text at 0) v → DigitValue (getD text (at + 1) 0) w → v ≤ 15 → w ≤ 15
+    pub byte-found : {w : ℕ} → at + 2 ≤ length text → DigitValue (getD text at 0) v → DigitValue (getD text (at + 1) 0) w → v ≢ noDigit → w ≢ noDigit
         → ByteAt text at (v * 16 + w)
     byte-found {w} h d e g k =
+        let first : v < noDigit = omega (arith, d .most) in
+        let second : w < noDigit = omega (arith, e .most) in
         let p : v ≡ (v * 16 + w) / 16 = omega arith in
         let q : w ≡ (v * 16 + w) % 16 = omega arith in
         record {
           most = omega arith;
-          found = λ _. two-stand (v * 16 + w) h (sym (d .found (omega arith)) ∙ ap digit p) (sym (e .found (omega arith)) ∙ ap digit q);
+          found = λ _. two-stand (v * 16 + w) h (sym (d .found first) ∙ ap digit p) (sym (e .found second) ∙ ap digit q);
           none = λ n. absurd (omega arith);
         }
 
-  byteAt-stands : byteAt text at < 256 → Stands text at (twoDigits (byteAt text at))
+  byteAt-stands : byteAt text at < noByte → Stands text at (twoDigits (byteAt text at))
   byteAt-stands h =
       let d = byte-digits (getD text at 0) (getD text (at + 1) 0) h in
       ⊎-elim
@@ -86,16 +88,16 @@ module _ {text : List ℕ} {at : ℕ} where
       (lt-or-le (at + 1) (length text))
 
   pub byteAt-is : {x : ℕ} → ByteAt text at x → byteAt text at ≡ x
-  byteAt-is {x} b = ⊎-elim found none (lt-or-le x 256)
+  byteAt-is {x} b = ⊎-elim found none (lt-or-le x noByte)
     where
-      found : x < 256 → byteAt text at ≡ x
+      found : x < noByte → byteAt text at ≡ x
       found h = let s = stand-two x (b .found h) in (λ i. byte (s .0 i) (s .1 i)) ∙ digits-byte x h
 
-      none : 256 ≤ x → byteAt text at ≡ x
+      none : noByte ≤ x → byteAt text at ≡ x
       none h = ⊎-elim
-          (λ (l : byteAt text at < 256). absurd (b .none (omega (arith, b .most)) (byteAt text at) l (byteAt-stands l)))
-          (λ (l : 256 ≤ byteAt text at). omega (arith, byte-most (getD text at 0) (getD text (at + 1) 0), b .most))
-          (lt-or-le (byteAt text at) 256)
+          (λ (l : byteAt text at < noByte). absurd (b .none (omega (arith, b .most)) (byteAt text at) l (byteAt-stands l)))
+          (λ (l : noByte ≤ byteAt text at). omega (arith, byte-most (getD text at 0) (getD text (at + 1) 0), b .most))
+          (lt-or-le (byteAt text at) noByte)
 
 -- ---- The ends of lines
 

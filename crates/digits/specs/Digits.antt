@@ -1,4 +1,6 @@
 -- What the functions on digits promise. A text and a buffer are lists of bytes, and a place in them is a number.
+--   noDigit      the value of a byte that is no digit
+--   noByte       what is read where no two digits stand
 --   DigitValue   the value of a digit
 --   Stands       a part stands at a place of a text
 --   ByteAt       the byte whose two digits stand at a place
@@ -11,21 +13,26 @@ use mathlib.Core.List.{List, _++_}
 use lib.ListN.{length, take, drop, getD}
 use Rattle.paper.specs.Text.{digit, twoDigits}
 
--- the value of byte b as a digit; 16 if it is none
+abbrev pub noDigit : ℕ
+noDigit = 16
+
+abbrev pub noByte : ℕ
+noByte = 256
+
+-- the value of byte b as a digit
 pub record DigitValue (b v : ℕ) : Type 0 where
-  pub most : v ≤ 16
-  pub found : v < 16 → digit v ≡ b
-  pub none : v ≡ 16 → (d : ℕ) → d < 16 → digit d ≢ b
+  pub most : v ≤ noDigit
+  pub found : v < noDigit → digit v ≡ b
+  pub none : v ≡ noDigit → (d : ℕ) → d < noDigit → digit d ≢ b
 
 pub record Stands (text : List ℕ) (at : ℕ) (part : List ℕ) : Type 0 where
   pub within : at + length part ≤ length text
   pub same : (i : ℕ) → i < length part → getD text (at + i) 0 ≡ getD part i 0
 
--- 256 if no two digits stand there
 pub record ByteAt (text : List ℕ) (at x : ℕ) : Type 0 where
-  pub most : x ≤ 256
-  pub found : x < 256 → Stands text at (twoDigits x)
-  pub none : x ≡ 256 → (y : ℕ) → y < 256 → ¬ Stands text at (twoDigits y)
+  pub most : x ≤ noByte
+  pub found : x < noByte → Stands text at (twoDigits x)
+  pub none : x ≡ noByte → (y : ℕ) → y < noByte → ¬ Stands text at (twoDigits y)
 
 abbrev pub put : List ℕ → ℕ → List ℕ → List ℕ
 put buffer at part = take at buffer ++ part ++ drop (at + length part) buffer

@@ -5,6 +5,7 @@
 --   Holds                                   a buffer whose first 228 bytes are a room
 --   Laid                                    a room put at the start of a buffer, the rest as found
 --   jobAt, sectionAt, linkAt                the entry that stands at a place
+--   shortRoom                               SHORT where 228 bytes are needed
 --   ReadOfText, WriteOfBytes                the replies of reading and writing
 use Prim.Native.Nat.{ℕ, _+_, _*_, _≤_, _<_}
 use mathlib.Core.Path.{_≡_}
@@ -14,10 +15,13 @@ use Rattle.paper.specs.declared.Room.{Room}
 use Rattle.paper.specs.declared.Job.{Job}
 use Rattle.paper.specs.declared.Section.{Section}
 use Rattle.paper.specs.declared.Link.{Link}
-use Rattle.paper.specs.declared.Reply.{Reply}
-use Rattle.paper.specs.declared.Reply.the-variants as say
+use Rattle.paper.specs.declared.Numbers.{Numbers}
+use Rattle.paper.specs.declared.Reading.{Reading}
+use Rattle.paper.specs.declared.Reading.the-variants as reading
+use Rattle.paper.specs.declared.Writing.the-variants as writing
 use Rattle.paper.specs.Room.{job, section, link}
-use Rattle.paper.specs.Reply.{numbers, ReadReply, WriteReply}
+use Rattle.paper.specs.Reply.{readingNumbers, writingNumbers, ReadReply, WriteReply}
+use Rattle.answer.specs.Calls.{OfAnswer}
 
 -- ---- The layout
 
@@ -63,15 +67,21 @@ linkAt buffer at = record { sender = getD buffer at 0; receiver = getD buffer (a
 
 -- ---- The calls
 
+-- SHORT with the length of a room
+abbrev pub shortRoom : Numbers
+shortRoom = writingNumbers (writing.Short size)
+
 -- the room that the reader hands back, all zeros on TEXT; in a buffer below 228 bytes nothing, and SHORT where the text is good
-pub data ReadOfText (text buffer₀ buffer : List ℕ) : Reply → Type 0 where
-  laid : {r : Reply} (room : Room) → ReadReply text r room → Laid room buffer₀ buffer → ReadOfText text buffer₀ buffer r
-  unread : {r : Reply} (room : Room) → ReadReply text r room → numbers r .code ≡ 2 → length buffer₀ < size → buffer ≡ buffer₀
-      → ReadOfText text buffer₀ buffer r
-  narrow : {r : Reply} (reading : Reply) (room : Room) → ReadReply text reading room → numbers reading .code ≡ 0
-      → length buffer₀ < size → buffer ≡ buffer₀ → r ≡ say.Short size → ReadOfText text buffer₀ buffer r
+pub data ReadOfText (text buffer₀ buffer : List ℕ) : Numbers → Type 0 where
+  laid : {N : Numbers} (r : Reading) (room : Room) → ReadReply text r room → N ≡ readingNumbers r → Laid room buffer₀ buffer
+      → ReadOfText text buffer₀ buffer N
+  unread : {N : Numbers} (i : ℕ) (room : Room) → ReadReply text (reading.Text i) room → N ≡ readingNumbers (reading.Text i)
+      → length buffer₀ < size → buffer ≡ buffer₀ → ReadOfText text buffer₀ buffer N
+  narrow : {N : Numbers} (room : Room) → ReadReply text reading.Good room → N ≡ shortRoom → length buffer₀ < size → buffer ≡ buffer₀
+      → ReadOfText text buffer₀ buffer N
 
 -- SHORT below 228 bytes, else what the writer answers of the room held
-pub data WriteOfBytes (bytes text₀ text : List ℕ) : Reply → Type 0 where
-  few : {r : Reply} → length bytes < size → text ≡ text₀ → r ≡ say.Short size → WriteOfBytes bytes text₀ text r
-  held : {r : Reply} (room : Room) → Holds bytes room → WriteReply room text₀ r text → WriteOfBytes bytes text₀ text r
+pub data WriteOfBytes (bytes text₀ text : List ℕ) : Numbers → Type 0 where
+  few : {N : Numbers} → N ≡ shortRoom → length bytes < size → text ≡ text₀ → WriteOfBytes bytes text₀ text N
+  held : {N : Numbers} (room : Room) → Holds bytes room → OfAnswer writingNumbers (λ r. WriteReply room text₀ r text) N
+      → WriteOfBytes bytes text₀ text N

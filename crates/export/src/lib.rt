@@ -4,14 +4,17 @@ ghost use Prim.Native.Nat.{ℕ, _+_, _*_, _≤_, _<_};
 ghost use mathlib.Core.Path.{_≡_};
 ghost use lib.ListN.{length, getD};
 ghost use Rattle.paper.specs.Room.{noJob, noSection, noLink};
+ghost use Rattle.reply.specs.Numbers.{SameNumbers};
 ghost use Rattle.answer.specs.Calls.{CheckOfText, PlanOfText, JudgeOfText};
 ghost use Rattle.export.specs.Calls.{Tells, Told};
-ghost use Rattle.export.specs.Bytes.{size, ByteAt, Holds, Laid, jobAt, sectionAt, linkAt, ReadOfText, WriteOfBytes};
+ghost use Rattle.export.specs.Bytes.{size, ByteAt, Holds, Laid, jobAt, sectionAt, linkAt, shortRoom, ReadOfText, WriteOfBytes};
 use paper::Job;
 use paper::Link;
-use paper::Reply;
+use paper::Numbers;
+use paper::Reading;
 use paper::Room;
 use paper::Section;
+use paper::Writing;
 
 // Checks the room of a text.
 #[no_mangle]
@@ -71,30 +74,39 @@ pub extern "C" fn stoerwjok_write(room: &[u8], text: &mut [u8], numbers: &mut [u
 }
 
 // Reads a text: its room in the first 228 bytes, all zeros on TEXT.
-fn read_of(text: &[u8], bytes: &mut [u8]) -> Reply
-    ensures { λ r. ⌜ ReadOfText (now (text .entry)) (now (bytes .entry)) (now (bytes .exit)) r ⌝ }
+fn read_of(text: &[u8], bytes: &mut [u8]) -> Numbers
+    ensures { λ n. ⌜ ReadOfText (now (text .entry)) (now (bytes .entry)) (now (bytes .exit)) n ⌝ }
 {
-    let reading = text::read(text);
-    let reply = reading.reply;
+    let read = text::read(text);
+    let reading = read.reply;
     if 228 <= bytes.len() {
-        put_room(reading.room, bytes);
-        return reply;
+        put_room(read.room, bytes);
+        return reply::of_reading(reading);
     }
-    if room::code(reply) != 0 {
-        return reply;
+    if let Reading::Text { place: _ } = reading {
+        return reply::of_reading(reading);
     }
-    Reply::Short { place: 228 }
+    short_room()
+}
+
+// SHORT where a room's 228 bytes do not fit.
+fn short_room() -> Numbers
+    ensures { λ n. ⌜ SameNumbers n shortRoom ⌝ }
+{
+    let short = Writing::Short { place: 228 };
+    reply::of_writing(short)
 }
 
 // Writes the room in the first 228 bytes.
-fn write_of(bytes: &[u8], text: &mut [u8]) -> Reply
-    ensures { λ r. ⌜ WriteOfBytes (now (bytes .entry)) (now (text .entry)) (now (text .exit)) r ⌝ }
+fn write_of(bytes: &[u8], text: &mut [u8]) -> Numbers
+    ensures { λ n. ⌜ WriteOfBytes (now (bytes .entry)) (now (text .entry)) (now (text .exit)) n ⌝ }
 {
     if bytes.len() < 228 {
-        return Reply::Short { place: 228 };
+        return short_room();
     }
     let room = room_of(bytes);
-    text::write(room, text)
+    let writing = text::write(room, text);
+    reply::of_writing(writing)
 }
 
 // Puts a room at the start of a buffer.
@@ -224,18 +236,17 @@ fn links_of(bytes: &[u8]) -> [Link; 16]
 }
 
 // Hands back the code of a reply, and its numbers where five fit.
-fn tell(reply: Reply, numbers: &mut [u64]) -> u64
+fn tell(reply: Numbers, numbers: &mut [u64]) -> u64
     ensures { λ n. ⌜ Tells reply (now (numbers .entry)) n (now (numbers .exit)) ⌝ }
 {
-    let five = answer::five_of(reply);
-    let code = five[0];
+    let code = reply.code as u64;
     if numbers.len() < 5 {
         return code;
     }
     numbers[0] = code;
-    numbers[1] = five[1];
-    numbers[2] = five[2];
-    numbers[3] = five[3];
-    numbers[4] = five[4];
+    numbers[1] = reply.count as u64;
+    numbers[2] = reply.place as u64;
+    numbers[3] = reply.prefix as u64;
+    numbers[4] = reply.cycle as u64;
     code
 }

@@ -1,23 +1,30 @@
 // The planner and the second planner on one room: replies and buffers compared.
-use paper::Room;
-use second::Answer;
 ghost use Prim.Native.Nat.{ℕ, _<_};
 ghost use mathlib.Core.Path.{_≡_};
 ghost use lib.ListN.{length, getD, replicate};
-ghost use mathlib.Core.Logic.{_⊎_};
 ghost use lib.Dec.{T};
-ghost use Rattle.pair.specs.Same.{TooLarge, Agree};
+ghost use Rattle.pair.specs.Same.{Agree};
+use paper::Numbers;
+use paper::Room;
+use second::PastAnswer;
+use second::PlanAnswer;
 
 // What a table holds before a call, in each number; and a plan buffer, in each slot.
 const FOUND: u64 = 0x5555555555555555;
 
 const UNPLANNED: u16 = 0xffff;
 
-// The numbers of the planner's reply and of the second planner's; whether all that was compared is
-// equal. Where the room is too large for the second planner nothing is compared.
+// The numbers of the second planner's reply, or that the room is too large for it.
+pub enum Second {
+    Known(Numbers),
+    TooLarge,
+}
+
+// The numbers of the planner's reply, what the second planner says, and whether all that was compared is equal. Where the room is too
+// large for the second planner nothing is compared.
 pub struct Compared {
-    pub first: [u64; 5],
-    pub second: [u64; 5],
+    pub first: Numbers,
+    pub second: Second,
     pub same: bool,
 }
 
@@ -75,126 +82,125 @@ fn same_masks(a: &[u16], b: &[u16]) -> bool
 }
 
 // Whether two replies have the same numbers.
-fn same_numbers(first: &[u64], second: &[u64]) -> bool
-    ensures { λ r. ⌜ (T r → now (first .entry) ≡ now (second .entry)) ⌝ }
+fn same_numbers(first: Numbers, second: Numbers) -> bool
+    ensures { λ r. ⌜ (T r → first ≡ second) ⌝ }
 {
-    if first.len() != second.len() {
+    if first.code != second.code {
         return false;
     }
-    let mut i = 0;
-    while i < first.len() {
-        if first[i] != second[i] {
-            return false;
-        }
-        i += 1;
+    if first.count != second.count {
+        return false;
+    }
+    if first.place != second.place {
+        return false;
+    }
+    if first.prefix != second.prefix {
+        return false;
+    }
+    if first.cycle != second.cycle {
+        return false;
     }
     true
 }
 
 // Whether a filled table is what the paper asks after a call with this code: as found for 3 to 9,
 // else all zeros.
-fn table_fits(code: u64, table: &[u64]) -> bool {
+fn table_fits(code: u8, table: &[u64]) -> bool {
     if 3 <= code && code <= 9 {
         return holds_only(table, FOUND);
     }
     holds_only(table, 0)
 }
 
+// Whether two replies are the same, where the table is as it should be and the plan buffers are the same.
+fn all_same(first: Numbers, second: Numbers, table: bool, plan: bool) -> bool
+    ensures { λ r. ⌜ (T r → (first ≡ second) × T plan) ⌝ }
+{
+    if !table {
+        return false;
+    }
+    if !plan {
+        return false;
+    }
+    same_numbers(first, second)
+}
+
 // What came back from both; whether the table is as it should be, and whether the plan buffers are
 // the same.
-fn both_of(first: [u64; 5], second: [u64; 5], table: bool, plan: bool) -> Compared
-    ensures { λ r. ⌜ (r .first ≡ first) × (r .second ≡ second) × (T (r .same) → TooLarge (r .second) ⊎ ((r .first ≡ r .second) × T plan)) ⌝ }
+fn both_of(first: Numbers, second: Second, table: bool, plan: bool) -> Compared
+    ensures { λ r. ⌜ (r .first ≡ first) × (r .second ≡ second) × (T (r .same) → Agree (r .first) (r .second) (T plan)) ⌝ }
 {
-    if second[0] == 13 {
-        return Compared {
+    match second {
+        Second::Known(numbers) => {
+            let same = all_same(first, numbers, table, plan);
+            Compared {
+                first,
+                second,
+                same,
+            }
+        }
+        Second::TooLarge => Compared {
             first,
             second,
             same: true,
-        };
-    }
-    if !table {
-        return Compared {
-            first,
-            second,
-            same: false,
-        };
-    }
-    if !plan {
-        return Compared {
-            first,
-            second,
-            same: false,
-        };
-    }
-    let same = same_numbers(&first[..], &second[..]);
-    Compared {
-        first,
-        second,
-        same,
-    }
-}
-
-// The numbers of an answer of the second planner; the code is 13 where the room is too large for it.
-fn numbers_of_second(answer: Answer) -> [u64; 5] {
-    match answer {
-        Answer::Good {
-            count,
-            place,
-            prefix,
-            cycle,
-        } => [0, count as u64, place as u64, prefix as u64, cycle as u64],
-        Answer::None { count } => [1, count as u64, 0, 0, 0],
-        Answer::Text { place } => [2, 0, place as u64, 0, 0],
-        Answer::Engines => [3, 0, 0, 0, 0],
-        Answer::Jobs => [4, 0, 0, 0, 0],
-        Answer::Job { place } => [5, 0, place as u64, 0, 0],
-        Answer::Section { place } => [6, 0, place as u64, 0, 0],
-        Answer::Link { place } => [7, 0, place as u64, 0, 0],
-        Answer::Long { place } => [8, 0, place as u64, 0, 0],
-        Answer::Table => [9, 0, 0, 0, 0],
-        Answer::Room => [10, 0, 0, 0, 0],
-        Answer::Short { place } => [11, 0, place as u64, 0, 0],
-        Answer::Out { count, place } => [12, count as u64, place as u64, 0, 0],
-        Answer::TooLarge => [13, 0, 0, 0, 0],
+        },
     }
 }
 
 // The check of a room by both.
 pub fn check_both(room: Room) -> Compared {
-    let first = answer::five_of(planner::check(room));
-    let second = answer::five_of(second::check(room));
-    both_of(first, second, true, true)
+    let first = reply::of_checked(planner::check(room));
+    let second = reply::of_checked(second::check(room));
+    both_of(first, Second::Known(second), true, true)
 }
 
 // The planner's plan of a room, in buffers that are filled first.
-fn plan_first(room: Room, table: &mut [u64], plan: &mut [u16]) -> [u64; 5] {
+fn plan_first(room: Room, table: &mut [u64], plan: &mut [u16]) -> Numbers {
     fill_table(table, FOUND);
     fill_plan(plan, UNPLANNED);
-    answer::five_of(planner::plan(room, table, plan))
+    reply::of_planned(planner::plan(room, table, plan))
 }
 
 // The second planner's plan of a room, in a buffer that is filled first.
-fn plan_second(room: Room, w: usize, plan: &mut [u16]) -> [u64; 5] {
+fn plan_second(room: Room, w: usize, plan: &mut [u16]) -> Second {
     fill_plan(plan, UNPLANNED);
-    numbers_of_second(second::plan(room, w, plan))
+    let answer = second::plan(room, w, plan);
+    match answer {
+        PlanAnswer::Known(planned) => Second::Known(reply::of_planned(planned)),
+        PlanAnswer::TooLarge => Second::TooLarge,
+    }
 }
 
 // The plan of a room by both, the planner's in `plan` and the second planner's in `other`.
 pub fn plan_both(room: Room, table: &mut [u64], plan: &mut [u16], other: &mut [u16]) -> Compared
-    ensures { λ r. ⌜ (T (r .same) → Agree (r .first) (r .second) (now (plan .exit)) (now (other .exit))) ⌝ }
+    ensures { λ r. ⌜ (T (r .same) → Agree (r .first) (r .second) (now (plan .exit) ≡ now (other .exit))) ⌝ }
 {
     let first = plan_first(room, table, plan);
     let second = plan_second(room, table.len() / 4, other);
-    let fits = table_fits(first[0], &table[..]);
+    let fits = table_fits(first.code, &table[..]);
     let same = same_masks(&plan[..], &other[..]);
     both_of(first, second, fits, same)
 }
 
+// The planner's verdict on a past, in a table that is filled first.
+fn judge_first(room: Room, table: &mut [u64], past: &[u16]) -> Numbers {
+    fill_table(table, FOUND);
+    reply::of_judged(planner::judge(room, table, past))
+}
+
+// The second planner's verdict on a past.
+fn judge_second(room: Room, w: usize, past: &[u16]) -> Second {
+    let answer = second::judge(room, w, past);
+    match answer {
+        PastAnswer::Known(judged) => Second::Known(reply::of_judged(judged)),
+        PastAnswer::TooLarge => Second::TooLarge,
+    }
+}
+
 // A past judged by both.
 pub fn judge_both(room: Room, table: &mut [u64], past: &[u16]) -> Compared {
-    fill_table(table, FOUND);
-    let first = answer::five_of(planner::judge(room, table, past));
-    let second = numbers_of_second(second::judge(room, table.len() / 4, past));
-    let fits = table_fits(first[0], &table[..]);
+    let first = judge_first(room, table, past);
+    let second = judge_second(room, table.len() / 4, past);
+    let fits = table_fits(first.code, &table[..]);
     both_of(first, second, fits, true)
 }

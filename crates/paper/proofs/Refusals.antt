@@ -12,7 +12,8 @@
 --   not-decided                   what is not decided is one of their outcomes
 --   decided                       of a decided room the outcome is one of Rest
 --   refused-as-found              a refusal leaves the table as found
-use Prim.Native.Nat.{ℕ, _≤_}
+--   refused-slots                 and names no prefix and no cycle
+use Prim.Native.Nat.{ℕ, _+_, _≤_}
 use native.Mathlib.Omega.{arith}
 use mathlib.Core.Path.{_≡_, refl}
 use mathlib.Core.List.{List}
@@ -133,7 +134,7 @@ module _ {Z : Type 0} (room : Room) (table₀ : List ℕ) (u : Undecided → Z) 
       limits-through room refusing Sizes (d .limits)
       (passes (d .lent) (passes (record { n = n; count = d .count; fits = d .fits }) x))
 
--- ---- The table
+-- ---- The numbers of a refusal
 
 pub refused-as-found : (table : List ℕ) (r : Refusal) → tableAfter (refusalNumbers r .code) table ≡ table
 refused-as-found table refusal.Engines = refl
@@ -142,3 +143,11 @@ refused-as-found table (refusal.Job i) = refl
 refused-as-found table (refusal.Section i) = refl
 refused-as-found table (refusal.Link i) = refl
 refused-as-found table (refusal.Long i) = refl
+
+pub refused-slots : (r : Refusal) → refusalNumbers r .prefix + refusalNumbers r .cycle ≡ 0
+refused-slots refusal.Engines = refl
+refused-slots refusal.Jobs = refl
+refused-slots (refusal.Job i) = refl
+refused-slots (refusal.Section i) = refl
+refused-slots (refusal.Link i) = refl
+refused-slots (refusal.Long i) = refl

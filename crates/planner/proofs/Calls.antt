@@ -21,12 +21,13 @@ use Rattle.paper.specs.Configuration.{MoreThan}
 use Rattle.paper.specs.Reply.{Refused, W, most, written, Decided, TooMany}
 use Rattle.paper.proofs.Refusals.{refused-as-found}
 use Rattle.room.specs.declared.Times.{Times}
-use Rattle.members.specs.Marks.{lives, mask, leads}
+use Rattle.states.specs.View.{lives, mask, leads}
+use Rattle.states.proofs.Pruned.{table-count, table-feasible}
 use Rattle.follow.specs.declared.Turn.{Turn}
 use Rattle.follow.specs.declared.Followed.the-variants as followed
 use Rattle.follow.specs.Turns.{laid, Turned}
 use Rattle.follow.specs.Pasts.{Given, PastFollowed}
-use Rattle.follow.proofs.Tables.{table-count, table-feasible, table-plan}
+use Rattle.follow.proofs.Tables.{table-plan}
 use Rattle.planner.specs.Calls.{Undecides, PlanAnswers, JudgeAnswers}
 
 pub refused-undecides : {room : Room} {table : List ℕ} {r : Refusal} → Refused room r → Undecides room table (undecided.Refused r) table
@@ -46,7 +47,7 @@ module _ {room : Room} {times : Times} {t : List ℕ} {w n : ℕ} (g : Given roo
     limits = g .limits;
     lent = lent;
     count = table-count (g .pruned) (g .limits) (g .clock);
-    fits = omega (arith, g .pruned .explored .holds .few);
+    fits = omega (arith, g .pruned .holds .few);
   }
 
   pub none-answer : (plan : List ℕ) → ¬ T (lives t w 0) → PlanAnswers room n plan (planned.None n) plan

@@ -92,7 +92,7 @@ fn answer_plan(
     requires { ⌜ Given room times (now table) w n ⌝ }
     ensures { λ r. ⌜ PlanAnswers room n (now (plan .entry)) r (now (plan .exit)) ⌝ }
 {
-    if !members::lives(&table[..], w, 0) {
+    if !states::lives(&table[..], w, 0) {
         return Planned::None { count: n };
     }
     let turn = follow::find_turn(table, w, n);

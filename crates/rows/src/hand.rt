@@ -15,8 +15,8 @@ use paper::Room;
 
 // The room of a text; all zeros where the text is none.
 fn room_of(text: &[u8]) -> Room {
-    let reading = text::read(text);
-    reading.room
+    let read = text::read(text);
+    read.room
 }
 
 // Room A.
@@ -47,11 +47,11 @@ fn wide(mask: u16) -> u64 {
 fn write_row(name: &[u8], both: Compared, plan: &[u16]) {
     let numbers = both.first;
     let line = with_reply(with_words(with_words(no_line(), name), b":"), numbers);
-    if numbers[4] == 0 {
+    if numbers.cycle == 0 {
         write_line(line);
         return;
     }
-    let slots = std::num::wrapping_add_u64(numbers[3], numbers[4]) as usize;
+    let slots = std::num::wrapping_add_usize(numbers.prefix, numbers.cycle);
     write_line(with_masks(with_words(line, b":"), plan, slots));
 }
 

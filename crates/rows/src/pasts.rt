@@ -3,6 +3,7 @@
 use super::chance::byte_of;
 use super::chance::mask_of;
 use super::chance::seed_of;
+use paper::Judged;
 use paper::Room;
 
 // The slot of a plan that stands for a slot, its cycle repeated without end.
@@ -67,8 +68,12 @@ fn accepts(room: Room, table: &mut [u64], past: &[u16], slots: usize) -> bool {
     if past.len() < slots {
         return false;
     }
-    let numbers = answer::five_of(planner::judge(room, table, &past[..slots]));
-    numbers[0] == 0
+    let judged = planner::judge(room, table, &past[..slots]);
+    match judged {
+        Judged::Good { count: _ } => true,
+        Judged::Undecided(_) => false,
+        Judged::Out { count: _, place: _ } => false,
+    }
 }
 
 // Puts into a slot of the past the first of four masks that the planner accepts there, or the last;

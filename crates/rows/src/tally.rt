@@ -6,40 +6,65 @@ use super::line::with_words;
 use super::line::write_line;
 use super::numbers::with_code;
 use super::numbers::with_reply;
+use super::numbers::with_second;
 use pair::Compared;
+use pair::Second;
 
-// The number of plans and of pasts by the code of the reply, 13 where the room was too large for the
-// second planner; and the number of differences.
+// How often each code came, and a room that was too large for the second planner.
+pub struct Counts {
+    pub codes: [u64; 13],
+    pub too_large: u64,
+}
+
+// What became of the plans and of the pasts, and the number of differences.
 pub struct Tally {
-    pub plans: [u64; 14],
-    pub pasts: [u64; 14],
+    pub plans: Counts,
+    pub pasts: Counts,
     pub differences: u64,
+}
+
+// Nothing counted.
+fn no_counts() -> Counts {
+    Counts {
+        codes: [0; 13],
+        too_large: 0,
+    }
 }
 
 // Nothing counted.
 pub fn no_tally() -> Tally {
     Tally {
-        plans: [0; 14],
-        pasts: [0; 14],
+        plans: no_counts(),
+        pasts: no_counts(),
         differences: 0,
     }
 }
 
 // One more of a code.
-fn one_more(counts: [u64; 14], code: u64) -> [u64; 14] {
-    let mut next = counts;
-    if code < 14 {
-        let at = code as usize;
-        next[at] = std::num::wrapping_add_u64(counts[at], 1);
+fn one_code_more(codes: [u64; 13], code: u8) -> [u64; 13] {
+    let mut next = codes;
+    let at = code as usize;
+    if at < 13 {
+        next[at] = std::num::wrapping_add_u64(codes[at], 1);
     }
     next
 }
 
-// The code under which a comparison is counted.
-fn code_of(both: Compared) -> u64 {
+// The counts with a comparison more.
+fn one_more(counts: Counts, both: Compared) -> Counts {
     let first = both.first;
     let second = both.second;
-    if second[0] == 13 { 13 } else { first[0] }
+    let codes = counts.codes;
+    match second {
+        Second::Known(_) => Counts {
+            codes: one_code_more(codes, first.code),
+            too_large: counts.too_large,
+        },
+        Second::TooLarge => Counts {
+            codes,
+            too_large: std::num::wrapping_add_u64(counts.too_large, 1),
+        },
+    }
 }
 
 // The tally with a difference more where the two replies or their buffers differ; these are written
@@ -51,7 +76,7 @@ pub fn with_difference(tally: Tally, asked: Line, both: Compared) -> Tally {
     let first = both.first;
     let second = both.second;
     let line = with_reply(with_words(asked, b": difference: planner"), first);
-    write_line(with_reply(with_words(line, b"; second planner"), second));
+    write_line(with_second(with_words(line, b"; second planner"), second));
     let mut next = tally;
     next.differences = std::num::wrapping_add_u64(tally.differences, 1);
     next
@@ -59,8 +84,7 @@ pub fn with_difference(tally: Tally, asked: Line, both: Compared) -> Tally {
 
 // The tally with the plan of room number n more.
 pub fn with_plan(tally: Tally, n: u64, both: Compared) -> Tally {
-    let counts = tally.plans;
-    let plans = one_more(counts, code_of(both));
+    let plans = one_more(tally.plans, both);
     let pasts = tally.pasts;
     let next = Tally {
         plans,
@@ -72,9 +96,8 @@ pub fn with_plan(tally: Tally, n: u64, both: Compared) -> Tally {
 
 // The tally with a past of room number n more.
 pub fn with_past(tally: Tally, n: u64, both: Compared) -> Tally {
-    let counts = tally.pasts;
     let plans = tally.plans;
-    let pasts = one_more(counts, code_of(both));
+    let pasts = one_more(tally.pasts, both);
     let next = Tally {
         plans,
         pasts,
@@ -84,34 +107,44 @@ pub fn with_past(tally: Tally, n: u64, both: Compared) -> Tally {
 }
 
 // The sum of the counts.
-fn total(counts: [u64; 14]) -> u64 {
-    let mut sum = 0;
+fn total(counts: Counts) -> u64 {
+    let codes = counts.codes;
+    let mut sum = counts.too_large;
     let mut code = 0;
-    while code < 14 {
-        sum = std::num::wrapping_add_u64(sum, counts[code]);
+    while code < 13 {
+        sum = std::num::wrapping_add_u64(sum, codes[code]);
         code += 1;
     }
     sum
 }
 
-// The line with what is counted, how many there are, and each code that came and how often.
-fn with_counts(line: Line, what: &[u8], counts: [u64; 14]) -> Line {
-    let mut next = with_words(with_number(line, what, total(counts)), b":");
+// The line with each code that came and how often.
+fn with_codes(line: Line, codes: [u64; 13]) -> Line {
+    let mut next = line;
     let mut code = 0;
-    while code < 14 {
-        if counts[code] != 0 {
-            next = with_number(with_code(next, code as u64), b"", counts[code]);
+    while code < 13 {
+        if codes[code] != 0 {
+            next = with_number(with_code(next, code as u8), b"", codes[code]);
         }
         code += 1;
     }
     next
 }
 
+// The line with what is counted, how many there are, and what became of them.
+fn with_counts(line: Line, what: &[u8], counts: Counts) -> Line {
+    let started = with_words(with_number(line, what, total(counts)), b":");
+    let codes = counts.codes;
+    let next = with_codes(started, codes);
+    if counts.too_large == 0 {
+        return next;
+    }
+    with_number(next, b" too large", counts.too_large)
+}
+
 // Writes the tally.
 pub fn write_tally(tally: Tally) {
-    let plans = tally.plans;
-    let pasts = tally.pasts;
-    let rooms = with_counts(no_line(), b"rooms", plans);
-    let both = with_counts(rooms, b"; pasts", pasts);
+    let rooms = with_counts(no_line(), b"rooms", tally.plans);
+    let both = with_counts(rooms, b"; pasts", tally.pasts);
     write_line(with_number(both, b"; differences", tally.differences));
 }

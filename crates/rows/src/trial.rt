@@ -9,8 +9,10 @@ use super::pasts::wander;
 use super::tally::Tally;
 use super::tally::with_past;
 use super::tally::with_plan;
+use pair::Second;
 use pair::judge_both;
 use pair::plan_both;
+use paper::Numbers;
 use paper::Room;
 ghost use Prim.Native.Nat.{_≤_};
 
@@ -51,10 +53,10 @@ fn try_planned(
     room: Room,
     table: &mut [u64],
     plan: &[u16],
-    numbers: [u64; 5],
+    numbers: Numbers,
     past: &mut [u16],
 ) -> Tally {
-    follow_plan(plan, numbers[3] as usize, numbers[4] as usize, past);
+    follow_plan(plan, numbers.prefix, numbers.cycle, past);
     let followed = try_past(tally, n, room, table, &past[..]);
     change_slot(room.jobs, seed_of(n, 2), past);
     try_past(followed, n, room, table, &past[..])
@@ -75,7 +77,7 @@ fn try_pasts(
     room: Room,
     table: &mut [u64],
     plan: &[u16],
-    numbers: [u64; 5],
+    numbers: Numbers,
 ) -> Tally {
     let mut masks = [0; 24];
     let length = byte_of(n, 5) as usize % 25;
@@ -92,10 +94,10 @@ fn try_room(tally: Tally, n: u64, table: &mut [u64], plan: &mut [u16], other: &m
     let next = with_plan(tally, n, both);
     let first = both.first;
     let second = both.second;
-    if second[0] == 13 {
-        return next;
+    match second {
+        Second::Known(_) => try_pasts(next, n, room, table, &plan[..], first),
+        Second::TooLarge => next,
     }
-    try_pasts(next, n, room, table, &plan[..], first)
 }
 
 // Room number n, with buffers as long as chance has it.

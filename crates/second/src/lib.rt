@@ -3,8 +3,12 @@
 // list that is searched from its front; the centre is what is left when looking for lost
 // configurations finds no more. Proved safe and ending; no contract says that its answers are right.
 // It knows at most 512 configurations.
-use paper::Reply;
+use paper::Checked;
+use paper::Judged;
+use paper::Planned;
+use paper::Refusal;
 use paper::Room;
+use paper::Undecided;
 
 mod room; // a room: its entries, the ranges of each part, R and H
 mod rules; // one slot: the rules, each by itself, and the configuration after the slot
@@ -24,112 +28,56 @@ use walk::first_outside;
 use walk::follow;
 ghost use Prim.Native.Nat.{_≤_};
 
-// One case for each code of the paper, with the fields that the paper names for it; and `TooLarge`
-// for a room with more configurations than this planner knows.
-pub enum Answer {
-    Good {
-        count: usize,
-        place: usize,
-        prefix: usize,
-        cycle: usize,
-    },
-    None {
-        count: usize,
-    },
-    Text {
-        place: usize,
-    },
-    Engines,
-    Jobs,
-    Job {
-        place: usize,
-    },
-    Section {
-        place: usize,
-    },
-    Link {
-        place: usize,
-    },
-    Long {
-        place: usize,
-    },
-    Table,
-    Room,
-    Short {
-        place: usize,
-    },
-    Out {
-        count: usize,
-        place: usize,
-    },
+// The plan of a room, or that it has more configurations than this planner knows.
+pub enum PlanAnswer {
+    Known(Planned),
+    TooLarge,
+}
+
+// The verdict on a past, or that its room has more configurations than this planner knows.
+pub enum PastAnswer {
+    Known(Judged),
+    TooLarge,
+}
+
+// The count of a room whose configurations are found; why it stays undecided; or that there are more than this planner knows.
+enum Decision {
+    Decided(usize),
+    Undecided(Undecided),
     TooLarge,
 }
 
 // The refusals 3 to 8, in the order of the numbers.
-pub fn check(room: Room) -> Reply {
+pub fn check(room: Room) -> Checked {
     if room.engines < 1 || 8 < room.engines {
-        return Reply::Engines;
+        return Checked::Refused(Refusal::Engines);
     }
     if room.jobs < 1 || 16 < room.jobs {
-        return Reply::Jobs;
+        return Checked::Refused(Refusal::Jobs);
     }
     let job = bad_job(room);
     if job < room.jobs as usize {
-        return Reply::Job { place: job };
+        return Checked::Refused(Refusal::Job { place: job });
     }
     if 32 < room.sections {
-        return Reply::Section { place: 32 };
+        return Checked::Refused(Refusal::Section { place: 32 });
     }
     let section = bad_section(room);
     if section < room.sections as usize {
-        return Reply::Section { place: section };
+        return Checked::Refused(Refusal::Section { place: section });
     }
     if 16 < room.links {
-        return Reply::Link { place: 16 };
+        return Checked::Refused(Refusal::Link { place: 16 });
     }
     let link = bad_link(room);
     if link < room.links as usize {
-        return Reply::Link { place: link };
+        return Checked::Refused(Refusal::Link { place: link });
     }
     let long = long_job(room);
     if long < room.jobs as usize {
-        return Reply::Long { place: long };
+        return Checked::Refused(Refusal::Long { place: long });
     }
-    Reply::Good {
-        count: 0,
-        place: 0,
-        prefix: 0,
-        cycle: 0,
-    }
-}
-
-// The same code and fields as an answer.
-fn answer_of(reply: Reply) -> Answer {
-    match reply {
-        Reply::Good {
-            count,
-            place,
-            prefix,
-            cycle,
-        } => Answer::Good {
-            count,
-            place,
-            prefix,
-            cycle,
-        },
-        Reply::None { count } => Answer::None { count },
-        Reply::Text { place } => Answer::Text { place },
-        Reply::Engines => Answer::Engines,
-        Reply::Jobs => Answer::Jobs,
-        Reply::Job { place } => Answer::Job { place },
-        Reply::Section { place } => Answer::Section { place },
-        Reply::Link { place } => Answer::Link { place },
-        Reply::Long { place } => Answer::Long { place },
-        Reply::Table => Answer::Table,
-        Reply::Room => Answer::Room,
-        Reply::Short { place } => Answer::Short { place },
-        Reply::Out { count, place } => Answer::Out { count, place },
-    }
+    Checked::Good
 }
 
 // The lesser of two numbers.
@@ -139,108 +87,104 @@ fn least(a: usize, b: usize) -> usize
     if a < b { a } else { b }
 }
 
-// Good with the count of a room within the limits and within w configurations, which are then in
-// the list `found` with the lost ones marked; any other answer is final.
-fn decide(room: Room, w: usize, found: &mut [u16], lost: &mut [bool]) -> Answer {
-    let reply = check(room);
-    let Reply::Good {
-        count: _,
-        place: _,
-        prefix: _,
-        cycle: _,
-    } = reply
-    else {
-        return answer_of(reply);
-    };
+// The configurations of a room within the limits and within w configurations, in the list `found`, with the lost ones marked.
+fn decide(room: Room, w: usize, found: &mut [u16], lost: &mut [bool]) -> Decision {
+    let checked = check(room);
+    if let Checked::Refused(refusal) = checked {
+        return Decision::Undecided(Undecided::Refused(refusal));
+    }
     let places = found.len() / 17;
     let most = least(w, places);
     let clock = clock_of(room);
     let count = explore(room, clock, &mut found[..most * 17]);
     if w < count {
-        return Answer::Room;
+        return Decision::Undecided(Undecided::Room);
     }
     if places < count {
-        return Answer::TooLarge;
+        return Decision::TooLarge;
     }
     centre_of(room, clock, &found[..], count, lost);
-    Answer::Good {
-        count,
-        place: 0,
-        prefix: 0,
-        cycle: 0,
-    }
+    Decision::Decided(count)
 }
 
 // The plan of a room, for a table that holds w configurations. The plan buffer is written only
 // where the answer is Good.
-pub fn plan(room: Room, w: usize, plan: &mut [u16]) -> Answer {
+pub fn plan(room: Room, w: usize, plan: &mut [u16]) -> PlanAnswer {
     let mut found = [0; 8704]; // 512 rows of 17
     let mut lost = [false; 512];
-    let decided = decide(room, w, &mut found[..], &mut lost[..]);
-    let Answer::Good {
-        count,
-        place: _,
-        prefix: _,
-        cycle: _,
-    } = decided
-    else {
-        return decided;
-    };
-    if lost[0] {
-        return Answer::None { count };
+    let decision = decide(room, w, &mut found[..], &mut lost[..]);
+    match decision {
+        Decision::Decided(count) => {
+            let planned = plan_found(room, &found[..], count, &lost[..], plan);
+            PlanAnswer::Known(planned)
+        }
+        Decision::Undecided(why) => PlanAnswer::Known(Planned::Undecided(why)),
+        Decision::TooLarge => PlanAnswer::TooLarge,
+    }
+}
+
+// The plan of a room whose configurations are found.
+fn plan_found(room: Room, found: &[u16], count: usize, lost: &[bool], plan: &mut [u16]) -> Planned {
+    if start_lost(lost) {
+        return Planned::None { count };
     }
     let mut met = [0; 17408]; // 1,024 rows of 17
     let mut masks = [0; 1024];
     let turn = follow(
         room,
         clock_of(room),
-        &found[..],
+        found,
         count,
-        &lost[..],
+        lost,
         &mut met[..],
         &mut masks[..],
     );
     let length = turn.length;
     if plan.len() < length {
-        return Answer::Short { place: length };
+        return Planned::Short { place: length };
     }
     copy_plan(&masks[..], length, plan);
-    Answer::Good {
+    Planned::Good {
         count,
-        place: 0,
         prefix: turn.prefix,
         cycle: turn.cycle,
     }
 }
 
 // Whether a past is in the centre, for a table that holds w configurations.
-pub fn judge(room: Room, w: usize, past: &[u16]) -> Answer {
+pub fn judge(room: Room, w: usize, past: &[u16]) -> PastAnswer {
     let mut found = [0; 8704]; // 512 rows of 17
     let mut lost = [false; 512];
-    let decided = decide(room, w, &mut found[..], &mut lost[..]);
-    let Answer::Good {
-        count,
-        place: _,
-        prefix: _,
-        cycle: _,
-    } = decided
-    else {
-        return decided;
-    };
-    if lost[0] {
-        return Answer::Out { count, place: 0 };
+    let decision = decide(room, w, &mut found[..], &mut lost[..]);
+    match decision {
+        Decision::Decided(count) => {
+            let judged = judge_found(room, &found[..], count, &lost[..], past);
+            PastAnswer::Known(judged)
+        }
+        Decision::Undecided(why) => PastAnswer::Known(Judged::Undecided(why)),
+        Decision::TooLarge => PastAnswer::TooLarge,
     }
-    let t = first_outside(room, clock_of(room), &found[..], count, &lost[..], past);
+}
+
+// Whether a past is in the centre of a room whose configurations are found.
+fn judge_found(room: Room, found: &[u16], count: usize, lost: &[bool], past: &[u16]) -> Judged {
+    if start_lost(lost) {
+        return Judged::Out { count, place: 0 };
+    }
+    let t = first_outside(room, clock_of(room), found, count, lost, past);
     if t < past.len() {
-        return Answer::Out {
+        return Judged::Out {
             count,
             place: t + 1,
         };
     }
-    Answer::Good {
-        count,
-        place: 0,
-        prefix: 0,
-        cycle: 0,
+    Judged::Good { count }
+}
+
+// Whether the first configuration is lost.
+fn start_lost(lost: &[bool]) -> bool {
+    if lost.len() == 0 {
+        return false;
     }
+    lost[0]
 }

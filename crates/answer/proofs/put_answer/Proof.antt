@@ -8,7 +8,7 @@ plan-of-requires : tie.Need-plan-of-requires
 plan-of-requires c κs = search needs
 
 put-reply-requires : tie.Need-put-reply-requires
-put-reply-requires c κs = slots-within _ (c .before .before .before .before .before .before .plan-of .ensures)
+put-reply-requires c κs = slots-within (c .before .before .before .before .before .before .plan-of .ensures)
 
 same-length : tie.Need-same-length
 same-length c = search needs

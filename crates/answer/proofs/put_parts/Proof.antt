@@ -19,7 +19,7 @@ put-slots-requires c κs =
     let h = p .before .before .before in
     let s = h .before .before .before in
     let v = s .pre in
-    let f = slots-fit (s .args .reply) (s .args .plan .now) _ (v .0) (v .1) (v .2) (h .head-of .ensures) (p .put-line .ensures) (p .put-line .kept .0) in
+    let f = slots-fit (s .args .numbers) (s .args .plan .now) _ (v .0) (v .1) (v .2) (h .head-of .ensures) (p .put-line .ensures) (p .put-line .kept .0) in
     (v .1, f)
 
 put-ending-requires : tie.Need-put-ending-requires
@@ -29,7 +29,7 @@ put-ending-requires c κs =
     let h = p .before .before .before in
     let s = h .before .before .before in
     let v = s .pre in
-    ending-fits (s .args .reply) (s .args .plan .now) _ (v .0) (v .1) (v .2) (h .head-of .ensures) (p .put-line .ensures) (q .put-slots .ensures)
+    ending-fits (s .args .numbers) (s .args .plan .now) _ (v .0) (v .1) (v .2) (h .head-of .ensures) (p .put-line .ensures) (q .put-slots .ensures)
     (p .put-line .kept .0)
     (q .put-slots .kept .1 .1 .0)
 
@@ -44,7 +44,7 @@ returns c =
     let h = p .before .before .before in
     let s = h .before .before .before in
     let v = s .pre in
-    parts-put (s .args .reply) (s .args .plan .now) _ (v .0) (v .1) (v .2) (h .head-of .ensures) (p .put-line .ensures) (q .put-slots .ensures)
+    parts-put (s .args .numbers) (s .args .plan .now) _ (v .0) (v .1) (v .2) (h .head-of .ensures) (p .put-line .ensures) (q .put-slots .ensures)
     (e .put-ending .ensures)
 
 pub put-parts-spec : {M : Type 1} → statement M

@@ -15,29 +15,14 @@ abbrev μ-loop : tie.MeasureT-loop
 loop-holds : tie.Need-loop-holds Inv-loop μ-loop
 loop-holds c = line-start _ _ _ (c .before .before .pre)
 
-shared-slice-read-put-byte : tie.Need-shared-slice-read-put-byte Inv-loop μ-loop
-shared-slice-read-put-byte c = search needs
-
-put-byte-requires : tie.Need-put-byte-requires Inv-loop μ-loop
-put-byte-requires c κs = search needs
-
-add-i : tie.Need-add-i Inv-loop μ-loop
-add-i c = search needs
-
-loop-less : tie.Need-loop-less Inv-loop μ-loop
-loop-less c = search needs
+-- the turn in which a byte was put
+abbrev turn : tie.After-put-byte Inv-loop μ-loop → tie.At-loop Inv-loop μ-loop
+turn c = c .before .before .before .before
 
 loop-again : tie.Need-loop-again Inv-loop μ-loop
-loop-again c = line-turn _ _ _ (search needs) (c .before .before .before .before .before .before .loop .inv) (search needs) (c .before .before .put-byte .ensures) (c .before .before .put-byte .kept .0)
-
-slice-write-buffer : tie.Need-slice-write-buffer Inv-loop μ-loop
-slice-write-buffer c = search needs
-
-add-result : tie.Need-add-result Inv-loop μ-loop
-add-result c = search needs
-
-same-length : tie.Need-same-length Inv-loop μ-loop
-same-length c = search needs
+loop-again c =
+    let put = c .before .before in
+    line-turn _ _ _ (search needs) (turn put .loop .inv) (search needs) (put .put-byte .ensures) (put .put-byte .kept .0)
 
 returns : tie.Need-returns Inv-loop μ-loop
 returns c = line-end _ _ _ (search needs) (c .before .loop .inv) (search needs)
@@ -49,12 +34,12 @@ put-line-spec =
     Inv-loop
     μ-loop
     loop-holds
-    shared-slice-read-put-byte
-    put-byte-requires
-    add-i
-    loop-less
+    (search needs)
+    (search needs)
+    (search needs)
+    (search needs)
     loop-again
-    slice-write-buffer
-    add-result
-    same-length
+    (search needs)
+    (search needs)
+    (λ c. search needs)
     returns)

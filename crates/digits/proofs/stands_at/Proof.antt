@@ -17,35 +17,21 @@ abbrev μ-loop : tie.MeasureT-loop
 returns : tie.Need-returns Inv-loop μ-loop
 returns c = (λ f. absurd f, λ s. absurd (omega (arith, s .within)))
 
-sub-if2 : tie.Need-sub-if2 Inv-loop μ-loop
-sub-if2 c = search needs
-
 returns-2 : tie.Need-returns-2 Inv-loop μ-loop
 returns-2 c = (λ f. absurd f, λ s. absurd (omega (arith, s .within)))
+
+-- the turn in which two bytes were the same
+abbrev inside : tie.Else3 Inv-loop μ-loop → tie.At-loop Inv-loop μ-loop
+inside c = c .before .before .before .before
 
 loop-holds : tie.Need-loop-holds Inv-loop μ-loop
 loop-holds c = (search needs, below-none _)
 
-add-if3 : tie.Need-add-if3 Inv-loop μ-loop
-add-if3 c = search needs
-
-shared-slice-read-if3 : tie.Need-shared-slice-read-if3 Inv-loop μ-loop
-shared-slice-read-if3 c = search needs
-
-shared-slice-read-if3-2 : tie.Need-shared-slice-read-if3-2 Inv-loop μ-loop
-shared-slice-read-if3-2 c = search needs
-
 returns-3 : tie.Need-returns-3 Inv-loop μ-loop
 returns-3 c = (λ f. absurd f, λ s. absurd (c .if3 .taken (s .same _ (search needs))))
 
-add-i : tie.Need-add-i Inv-loop μ-loop
-add-i c = search needs
-
-loop-less : tie.Need-loop-less Inv-loop μ-loop
-loop-less c = search needs
-
 loop-again : tie.Need-loop-again Inv-loop μ-loop
-loop-again c = (search needs, below-more _ _ (c .before .before .before .before .loop .inv .1) (c .if3 .left))
+loop-again c = (search needs, below-more _ _ (inside c .loop .inv .1) (c .if3 .left))
 
 returns-4 : tie.Need-returns-4 Inv-loop μ-loop
 returns-4 c = (λ _. record { within = omega arith; same = λ k h. c .before .loop .inv .1 k (omega arith) }, λ _. tt)
@@ -57,14 +43,14 @@ stands-at-spec =
     Inv-loop
     μ-loop
     returns
-    sub-if2
+    (search needs)
     returns-2
     loop-holds
-    add-if3
-    shared-slice-read-if3
-    shared-slice-read-if3-2
+    (search needs)
+    (search needs)
+    (search needs)
     returns-3
-    add-i
-    loop-less
+    (search needs)
+    (search needs)
     loop-again
     returns-4)

@@ -15,9 +15,6 @@ returns-2 c = value-says _ (value-low _ (omega arith) (omega arith)) (omega arit
 returns-3 : tie.Need-returns-3
 returns-3 c = value-says _ (value-between _ (omega arith) (omega arith)) (omega arith)
 
-add-result : tie.Need-add-result
-add-result c = search needs
-
 returns-4 : tie.Need-returns-4
 returns-4 c = let h = value-high _ (c .before .if3 .left) (omega arith) in value-says _ (omega arith) (omega arith)
 
@@ -25,4 +22,4 @@ returns-5 : tie.Need-returns-5
 returns-5 c = value-says _ (value-over _ (omega arith)) (omega arith)
 
 pub value-spec : {M : Type 1} → statement M
-value-spec = tie.close (tie.spec returns returns-2 returns-3 add-result returns-4 returns-5)
+value-spec = tie.close (tie.spec returns returns-2 returns-3 (search needs) returns-4 returns-5)

@@ -1,50 +1,28 @@
--- `pair::both_of` meets its contract: true comes back only where the room is too large, or after every test has passed.
-use mathlib.Core.Path.{_≡_, refl, subst}
-use mathlib.Core.Bool.{Bool, true, false, not}
-use mathlib.Core.Logic.{inl, inr}
+-- `pair::both_of` meets its contract: what the second planner knows is compared.
+use mathlib.Core.Path.{refl, sym, subst}
 use lib.Dec.{T}
 use borrow.Author.Needs.{needs}
+use Rattle.pair.specs.declared.Second.{Second}
+use Rattle.pair.specs.Same.{Agree}
 use Rattle.pair.proofs.both_of.Statement.{statement}
 use Rattle.pair.proofs.both_of.Tie as tie
 
--- a test whose contrary failed has passed
-passed : (b : Bool) → not b ≡ false → T b
-passed true e = tt
-passed false e = absurd (subst T e tt)
+enum-known-second : tie.Need-enum-known-second
+enum-known-second c = search needs
 
-array-read-if1 : tie.Need-array-read-if1
-array-read-if1 c = search needs
+all-same-requires : tie.Need-all-same-requires
+all-same-requires c κs = search needs
+
+enum-told : tie.Need-enum-told
+enum-told c = search needs
 
 returns : tie.Need-returns
-returns c = (refl, refl, λ t. inl (c .if1 .taken))
+returns c = (refl, sym (c .before .before .second .given .1), c .all-same .ensures)
 
 returns-2 : tie.Need-returns-2
-returns-2 c = (refl, refl, λ t. absurd t)
-
-returns-3 : tie.Need-returns-3
-returns-3 c = (refl, refl, λ t. absurd t)
-
-slice-aggregate-same-numbers : tie.Need-slice-aggregate-same-numbers
-slice-aggregate-same-numbers c = search needs
-
-slice-aggregate-same-numbers-2 : tie.Need-slice-aggregate-same-numbers-2
-slice-aggregate-same-numbers-2 c = search needs
-
-same-numbers-requires : tie.Need-same-numbers-requires
-same-numbers-requires c κs = search needs
-
-returns-4 : tie.Need-returns-4
-returns-4 c = (refl, refl, λ t. inr (c .same-numbers .ensures t, passed (c .before .before .before .before .before .before .args .plan) (c .before .before .before .if3 .left)))
+returns-2 c =
+    let a = c .before .before .args in
+    (refl, refl, λ t. subst (λ (s : Second). Agree (a .first) s (T (a .plan))) (sym (c .enum-told .given .1)) tt)
 
 pub both-of-spec : {M : Type 1} → statement M
-both-of-spec =
-    tie.close
-    (tie.spec
-    array-read-if1
-    returns
-    returns-2
-    returns-3
-    slice-aggregate-same-numbers
-    slice-aggregate-same-numbers-2
-    same-numbers-requires
-    returns-4)
+both-of-spec = tie.close (tie.spec enum-known-second all-same-requires enum-told returns returns-2)

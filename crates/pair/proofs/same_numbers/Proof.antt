@@ -1,68 +1,30 @@
--- `pair::same_numbers` meets its contract. The two agree at every place below i; where i is their length they are
--- equal. The measure is what is left of that length.
-use Prim.Native.Nat.{ℕ, _-_, _≤_, _<_}
-use native.Mathlib.Omega.{arith}
-use mathlib.Core.Path.{_≡_}
-use lib.ListN.{length, getD}
-use lib.Seq.{ext-getD}
-use borrow.Author.Count.{below-none, below-more}
-use borrow.Author.Needs.{needs}
+-- `pair::same_numbers` meets its contract: after five tests the numbers are the same, one by one.
+use Rattle.reply.proofs.Numbers.{same-numbers}
 use Rattle.pair.proofs.same_numbers.Statement.{statement}
 use Rattle.pair.proofs.same_numbers.Tie as tie
 
-abbrev Inv-loop : tie.InvT-loop
-Inv-loop first second i₀ i = (i ≤ length first) × (length first ≡ length second) × ((k : ℕ) → k < i → getD first k 0 ≡ getD second k 0)
-
-abbrev μ-loop : tie.MeasureT-loop
-μ-loop first second i₀ i = length first - i
-
-returns : tie.Need-returns Inv-loop μ-loop
+returns : tie.Need-returns
 returns c = λ t. absurd t
 
-loop-holds : tie.Need-loop-holds Inv-loop μ-loop
-loop-holds c = (search needs, search needs, below-none _)
-
-mul-if2 : tie.Need-mul-if2 Inv-loop μ-loop
-mul-if2 c = search needs
-
-shared-slice-read-if2 : tie.Need-shared-slice-read-if2 Inv-loop μ-loop
-shared-slice-read-if2 c = search needs
-
-mul-if2-2 : tie.Need-mul-if2-2 Inv-loop μ-loop
-mul-if2-2 c = search needs
-
-shared-slice-read-if2-2 : tie.Need-shared-slice-read-if2-2 Inv-loop μ-loop
-shared-slice-read-if2-2 c = search needs
-
-returns-2 : tie.Need-returns-2 Inv-loop μ-loop
+returns-2 : tie.Need-returns-2
 returns-2 c = λ t. absurd t
 
-add-i : tie.Need-add-i Inv-loop μ-loop
-add-i c = search needs
+returns-3 : tie.Need-returns-3
+returns-3 c = λ t. absurd t
 
-loop-less : tie.Need-loop-less Inv-loop μ-loop
-loop-less c = search needs
+returns-4 : tie.Need-returns-4
+returns-4 c = λ t. absurd t
 
-loop-again : tie.Need-loop-again Inv-loop μ-loop
-loop-again c = (search needs, search needs, below-more _ _ (c .before .before .before .before .loop .inv .2) (c .if2 .left))
+returns-5 : tie.Need-returns-5
+returns-5 c = λ t. absurd t
 
-returns-3 : tie.Need-returns-3 Inv-loop μ-loop
-returns-3 c = λ t. ext-getD 0 _ _ (c .before .loop .inv .1) (λ (k : ℕ) (h : k < _). c .before .loop .inv .2 k (omega arith))
+returns-6 : tie.Need-returns-6
+returns-6 c =
+    let c₄ = c .before .before .before in
+    let c₃ = c₄ .before .before .before in
+    let c₂ = c₃ .before .before .before in
+    let c₁ = c₂ .before .before .before in
+    λ t. same-numbers (record { code = c₁ .if1 .left; count = c₂ .if2 .left; place = c₃ .if3 .left; prefix = c₄ .if4 .left; cycle = c .if5 .left })
 
 pub same-numbers-spec : {M : Type 1} → statement M
-same-numbers-spec =
-    tie.close
-    (tie.spec
-    Inv-loop
-    μ-loop
-    returns
-    loop-holds
-    mul-if2
-    shared-slice-read-if2
-    mul-if2-2
-    shared-slice-read-if2-2
-    returns-2
-    add-i
-    loop-less
-    loop-again
-    returns-3)
+same-numbers-spec = tie.close (tie.spec returns returns-2 returns-3 returns-4 returns-5 returns-6)

@@ -31,20 +31,8 @@ next c good =
     let g = good (head c .loop .i) (c .before .before .loop-test .taken) in
     multiple-next (head c .loop .inv .2 good) (c .least-multiple .ensures (omega arith))
 
-cast-n : tie.Need-cast-n Inv-loop μ-loop
-cast-n c = search needs
-
 loop-holds : tie.Need-loop-holds Inv-loop μ-loop
 loop-holds c = (search needs, search needs, λ _. least-none)
-
-mul-job : tie.Need-mul-job Inv-loop μ-loop
-mul-job c = search needs
-
-array-copy-out-job : tie.Need-array-copy-out-job Inv-loop μ-loop
-array-copy-out-job c = search needs
-
-least-multiple-requires : tie.Need-least-multiple-requires Inv-loop μ-loop
-least-multiple-requires c κs = search needs
 
 returns : tie.Need-returns Inv-loop μ-loop
 returns c =
@@ -62,15 +50,6 @@ returns c =
         long = c .if1 .taken;
       };
     }
-
-cast-h : tie.Need-cast-h Inv-loop μ-loop
-cast-h c = search needs
-
-add-i : tie.Need-add-i Inv-loop μ-loop
-add-i c = search needs
-
-loop-less : tie.Need-loop-less Inv-loop μ-loop
-loop-less c = search needs
 
 loop-again : tie.Need-loop-again Inv-loop μ-loop
 loop-again c = (search needs, search needs, next (c .before))
@@ -90,14 +69,14 @@ common-multiple-spec =
     (tie.spec
     Inv-loop
     μ-loop
-    cast-n
+    (search needs)
     loop-holds
-    mul-job
-    array-copy-out-job
-    least-multiple-requires
+    (search needs)
+    (search needs)
+    (search needs)
     returns
-    cast-h
-    add-i
-    loop-less
+    (search needs)
+    (search needs)
+    (search needs)
     loop-again
     returns-2)

@@ -22,17 +22,8 @@ turn c = c .before .before .before .before .before .before .before .before .befo
 returns : tie.Need-returns Inv-loop μ-loop
 returns c = first-many (search needs)
 
-cast-n : tie.Need-cast-n Inv-loop μ-loop
-cast-n c = search needs
-
 loop-holds : tie.Need-loop-holds Inv-loop μ-loop
 loop-holds c = (search needs, below-none _)
-
-mul-link : tie.Need-mul-link Inv-loop μ-loop
-mul-link c = search needs
-
-array-copy-out-link : tie.Need-array-copy-out-link Inv-loop μ-loop
-array-copy-out-link c = search needs
 
 returns-2 : tie.Need-returns-2 Inv-loop μ-loop
 returns-2 c = first-of (search needs) (least-found (c .before .before .before .before .before .loop .inv .1) (search needs) (search needs))
@@ -42,39 +33,12 @@ returns-3 c =
     first-of (search needs)
     (least-found (c .before .before .before .before .before .before .before .before .loop .inv .1) (search needs) (search needs))
 
-cast-i : tie.Need-cast-i Inv-loop μ-loop
-cast-i c = search needs
-
-cast-k : tie.Need-cast-k Inv-loop μ-loop
-cast-k c = search needs
-
-mul-sender : tie.Need-mul-sender Inv-loop μ-loop
-mul-sender c = search needs
-
-array-copy-out-sender : tie.Need-array-copy-out-sender Inv-loop μ-loop
-array-copy-out-sender c = search needs
-
-mul-receiver : tie.Need-mul-receiver Inv-loop μ-loop
-mul-receiver c = search needs
-
-array-copy-out-receiver : tie.Need-array-copy-out-receiver Inv-loop μ-loop
-array-copy-out-receiver c = search needs
-
-link-fits-requires : tie.Need-link-fits-requires Inv-loop μ-loop
-link-fits-requires c κs = search needs
-
 returns-4 : tie.Need-returns-4 Inv-loop μ-loop
 returns-4 c =
     let t = turn (c .before) in
     first-of (search needs)
     (least-found (t .before .loop .inv .1) (t .loop-test .taken)
     (fails (c .before .link-fits .ensures _ (search needs) (search needs)) (c .if4 .taken)))
-
-add-q : tie.Need-add-q Inv-loop μ-loop
-add-q c = search needs
-
-loop-less : tie.Need-loop-less Inv-loop μ-loop
-loop-less c = search needs
 
 loop-again : tie.Need-loop-again Inv-loop μ-loop
 loop-again c =
@@ -93,21 +57,21 @@ first-bad-link-spec =
     Inv-loop
     μ-loop
     returns
-    cast-n
+    (search needs)
     loop-holds
-    mul-link
-    array-copy-out-link
+    (search needs)
+    (search needs)
     returns-2
     returns-3
-    cast-i
-    cast-k
-    mul-sender
-    array-copy-out-sender
-    mul-receiver
-    array-copy-out-receiver
-    link-fits-requires
+    (search needs)
+    (search needs)
+    (search needs)
+    (search needs)
+    (search needs)
+    (search needs)
+    (search needs)
     returns-4
-    add-q
-    loop-less
+    (search needs)
+    (search needs)
     loop-again
     returns-5)

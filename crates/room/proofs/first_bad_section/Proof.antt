@@ -21,43 +21,16 @@ head c = c .before .before .before .before .before .before .before .before
 returns : tie.Need-returns Inv-loop μ-loop
 returns c = first-many (search needs)
 
-cast-n : tie.Need-cast-n Inv-loop μ-loop
-cast-n c = search needs
-
 loop-holds : tie.Need-loop-holds Inv-loop μ-loop
 loop-holds c = (search needs, below-none _)
 
-mul-section : tie.Need-mul-section Inv-loop μ-loop
-mul-section c = search needs
-
-array-copy-out-section : tie.Need-array-copy-out-section Inv-loop μ-loop
-array-copy-out-section c = search needs
-
 returns-2 : tie.Need-returns-2 Inv-loop μ-loop
 returns-2 c = first-of (search needs) (least-found (c .before .before .before .before .before .loop .inv .1) (search needs) (search needs))
-
-cast-i : tie.Need-cast-i Inv-loop μ-loop
-cast-i c = search needs
-
-mul-owner : tie.Need-mul-owner Inv-loop μ-loop
-mul-owner c = search needs
-
-array-copy-out-owner : tie.Need-array-copy-out-owner Inv-loop μ-loop
-array-copy-out-owner c = search needs
-
-section-fits-requires : tie.Need-section-fits-requires Inv-loop μ-loop
-section-fits-requires c κs = search needs
 
 returns-3 : tie.Need-returns-3 Inv-loop μ-loop
 returns-3 c =
     first-of (search needs)
     (least-found (head (c .before) .loop .inv .1) (search needs) (fails (c .before .section-fits .ensures _ (search needs)) (c .if3 .taken)))
-
-add-q : tie.Need-add-q Inv-loop μ-loop
-add-q c = search needs
-
-loop-less : tie.Need-loop-less Inv-loop μ-loop
-loop-less c = search needs
 
 loop-again : tie.Need-loop-again Inv-loop μ-loop
 loop-again c =
@@ -73,17 +46,17 @@ first-bad-section-spec =
     Inv-loop
     μ-loop
     returns
-    cast-n
+    (search needs)
     loop-holds
-    mul-section
-    array-copy-out-section
+    (search needs)
+    (search needs)
     returns-2
-    cast-i
-    mul-owner
-    array-copy-out-owner
-    section-fits-requires
+    (search needs)
+    (search needs)
+    (search needs)
+    (search needs)
     returns-3
-    add-q
-    loop-less
+    (search needs)
+    (search needs)
     loop-again
     returns-4)

@@ -16,26 +16,8 @@ Inv-loop jobs n greatest₀ i₀ greatest i = (1 ≤ n → i ≤ n) × Greatest 
 abbrev μ-loop : tie.MeasureT-loop
 μ-loop jobs n greatest₀ i₀ greatest i = n - i
 
-cast-n : tie.Need-cast-n Inv-loop μ-loop
-cast-n c = search needs
-
-array-copy-out-start : tie.Need-array-copy-out-start Inv-loop μ-loop
-array-copy-out-start c = search needs
-
 loop-holds : tie.Need-loop-holds Inv-loop μ-loop
 loop-holds c = (λ l. l, greatest-one _)
-
-mul-job : tie.Need-mul-job Inv-loop μ-loop
-mul-job c = search needs
-
-array-copy-out-job : tie.Need-array-copy-out-job Inv-loop μ-loop
-array-copy-out-job c = search needs
-
-add-i : tie.Need-add-i Inv-loop μ-loop
-add-i c = search needs
-
-loop-less : tie.Need-loop-less Inv-loop μ-loop
-loop-less c = search needs
 
 loop-again : tie.Need-loop-again Inv-loop μ-loop
 loop-again c =
@@ -57,12 +39,12 @@ greatest-first-spec =
     (tie.spec
     Inv-loop
     μ-loop
-    cast-n
-    array-copy-out-start
+    (search needs)
+    (search needs)
     loop-holds
-    mul-job
-    array-copy-out-job
-    add-i
-    loop-less
+    (search needs)
+    (search needs)
+    (search needs)
+    (search needs)
     loop-again
     returns)

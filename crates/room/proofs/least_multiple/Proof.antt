@@ -38,12 +38,6 @@ loop-holds c = (search needs, search needs, λ s l p. absurd (omega arith))
 mul-loop : tie.Need-mul-loop Inv-loop μ-loop
 mul-loop c = record { fits = product-fits _ _ (omega arith) (omega arith) }
 
-rem-loop : tie.Need-rem-loop Inv-loop μ-loop
-rem-loop c = search needs
-
-add-times : tie.Need-add-times Inv-loop μ-loop
-add-times c = search needs
-
 loop-less : tie.Need-loop-less Inv-loop μ-loop
 loop-less c = let l = unfinished c in omega arith
 
@@ -74,8 +68,8 @@ least-multiple-spec =
     returns
     loop-holds
     mul-loop
-    rem-loop
-    add-times
+    (search needs)
+    (search needs)
     loop-less
     loop-again
     mul-result

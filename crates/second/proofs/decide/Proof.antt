@@ -9,14 +9,14 @@ use Rattle.second.proofs.decide.Tie as tie
 check-requires : tie.Need-check-requires
 check-requires c κs = search needs
 
-enum-told : tie.Need-enum-told
-enum-told c = search needs
-
-answer-of-requires : tie.Need-answer-of-requires
-answer-of-requires c κs = search needs
+enum-known-checked : tie.Need-enum-known-checked
+enum-known-checked c = search needs
 
 returns : tie.Need-returns
 returns c = search needs
+
+enum-told : tie.Need-enum-told
+enum-told c = search needs
 
 least-requires : tie.Need-least-requires
 least-requires c κs = search needs
@@ -65,9 +65,9 @@ decide-spec =
     tie.close
     (tie.spec
     check-requires
-    enum-told
-    answer-of-requires
+    enum-known-checked
     returns
+    enum-told
     least-requires
     clock-of-requires
     mul-explore

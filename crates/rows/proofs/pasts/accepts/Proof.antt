@@ -15,17 +15,32 @@ slice-aggregate-judge c = sym (length-take-le _ _ (omega arith))
 judge-requires : tie.Need-judge-requires
 judge-requires c κs = search needs
 
-five-of-requires : tie.Need-five-of-requires
-five-of-requires c κs = search needs
+enum-told : tie.Need-enum-told
+enum-told c = search needs
 
-array-read-result : tie.Need-array-read-result
-array-read-result c = search needs
+enum-told-2 : tie.Need-enum-told-2
+enum-told-2 c = search needs
+
+enum-told-3 : tie.Need-enum-told-3
+enum-told-3 c = search needs
 
 same-length : tie.Need-same-length
 same-length c = search needs
 
 returns-2 : tie.Need-returns-2
 returns-2 c = search needs
+
+same-length-2 : tie.Need-same-length-2
+same-length-2 c = search needs
+
+returns-3 : tie.Need-returns-3
+returns-3 c = search needs
+
+same-length-3 : tie.Need-same-length-3
+same-length-3 c = search needs
+
+returns-4 : tie.Need-returns-4
+returns-4 c = search needs
 
 pub accepts-spec : {M : Type 1} → statement M
 accepts-spec =
@@ -34,7 +49,12 @@ accepts-spec =
     returns
     slice-aggregate-judge
     judge-requires
-    five-of-requires
-    array-read-result
+    enum-told
+    enum-told-2
+    enum-told-3
     same-length
-    returns-2)
+    returns-2
+    same-length-2
+    returns-3
+    same-length-3
+    returns-4)

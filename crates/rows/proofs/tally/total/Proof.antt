@@ -5,10 +5,10 @@ use Rattle.rows.proofs.tally.total.Statement.{statement}
 use Rattle.rows.proofs.tally.total.Tie as tie
 
 abbrev Inv-loop : tie.InvT-loop
-Inv-loop counts sum₀ code₀ sum code = code ≤ 14
+Inv-loop codes sum₀ code₀ sum code = code ≤ 13
 
 abbrev μ-loop : tie.MeasureT-loop
-μ-loop counts sum₀ code₀ sum code = 14 - code
+μ-loop codes sum₀ code₀ sum code = 13 - code
 
 loop-holds : tie.Need-loop-holds Inv-loop μ-loop
 loop-holds c = search needs
