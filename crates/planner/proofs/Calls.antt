@@ -20,7 +20,7 @@ use Rattle.paper.specs.Room.{Clock, Limits}
 use Rattle.paper.specs.Configuration.{MoreThan}
 use Rattle.paper.specs.Reply.{Refused, W, most, written, Decided, TooMany}
 use Rattle.paper.proofs.Refusals.{refused-as-found}
-use Rattle.room.specs.declared.Times.{Times}
+use Rattle.paper.specs.declared.Times.{Times}
 use Rattle.states.specs.View.{lives, mask, leads}
 use Rattle.states.proofs.Pruned.{table-count, table-feasible}
 use Rattle.follow.specs.declared.Turn.{Turn}
@@ -33,12 +33,12 @@ use Rattle.planner.specs.Calls.{Undecides, PlanAnswers, JudgeAnswers}
 pub refused-undecides : {room : Room} {table : List ℕ} {r : Refusal} → Refused room r → Undecides room table (undecided.Refused r) table
 refused-undecides {table = table} {r = r} x = record { says = x; table-after = sym (refused-as-found table r) }
 
-pub many-configurations : {room : Room} {table : List ℕ} {R H w : ℕ} → Limits room → Clock room R H → length table ≤ most → w ≡ W table
-    → MoreThan room R H w → TooMany room table
-many-configurations {R = R} {H = H} x clock lent same more = record {
+pub many-configurations : {room : Room} {table : List ℕ} {times : Times} {w : ℕ} → Limits room → Clock room times → length table ≤ most → w ≡ W table
+    → MoreThan room times w → TooMany room table
+many-configurations {times = times} x clock lent same more = record {
   limits = x;
   lent = lent;
-  more = record { R = R; H = H; clock = clock; more = rw same at more };
+  more = record { times = times; clock = clock; more = rw same at more };
 }
 
 module _ {room : Room} {times : Times} {t : List ℕ} {w n : ℕ} (g : Given room times t w n) where

@@ -9,8 +9,8 @@ use paper::Checked;
 use paper::Judged;
 use paper::Planned;
 use paper::Room;
+use paper::Times;
 use paper::Undecided;
-use room::Times;
 
 // The longest table: a longer one is refused.
 const MOST: usize = 4194304;

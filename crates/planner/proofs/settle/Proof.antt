@@ -27,11 +27,11 @@ told c = c .before .before
 
 -- what the exploration ends with, for each answer
 ended : (c : tie.After-explore) {r : Exploration} → c .explore .result ≡ r → let t = c .before .before .clock .result in
-    Ended (start (sized c) .args .room) (t .first) (t .multiple) (c .explore .last .1 .1 .0) (sized c .capacity .result) r
+    Ended (start (sized c) .args .room) t (c .explore .last .1 .1 .0) (sized c .capacity .result) r
 ended c e =
     let t = c .before .before .clock .result in
     subst
-    (Ended (start (sized c) .args .room) (t .first) (t .multiple) (c .explore .last .1 .1 .0) (sized c .capacity .result))
+    (Ended (start (sized c) .args .room) t (c .explore .last .1 .1 .0) (sized c .capacity .result))
     e (c .explore .ensures)
 
 -- ---- The needs
