@@ -67,6 +67,7 @@ pub enum Judged {
 }
 
 /// The answer to reading a text.
+#[allow(clippy::large_enum_variant)]
 #[derive(Clone, Copy, Debug, PartialEq, Eq)]
 pub enum Reading {
     /// The room whose text it is.
