@@ -1,5 +1,18 @@
-/* Calls of the proved planner. Words and numbers are those of the paper (01).
-   A pointer may be null where its length is 0. */
+/* Calls of the proved planner, version 0.1.0. Words and numbers are those of the paper (01).
+
+   What a caller keeps:
+   - A pointer and the length after it are one lent buffer: bytes (text, room), 16-bit masks (plan, past) or 64-bit numbers
+     (table, numbers). The length counts those, not bytes. Where it is 0 the pointer may be null.
+   - A buffer of numbers begins at an address that 8 divides, one of masks at an address that 2 divides, as C arrays of
+     uint64_t and uint16_t do.
+   - No two buffers of one call overlap.
+   - Calls may run on several threads at once, as long as no buffer that one of them writes is lent to another.
+
+   What a call keeps:
+   - It reads and writes its buffers and its stack, and nothing else: no heap, no variables of its own, no input or output.
+     Nothing is kept between calls. Of the C library it needs memcpy and memset.
+   - It returns for all arguments. The deepest, stoerwjok_judge, was measured to take 3,280 bytes of stack
+     (docs/SPEED.md has each call; bench/stack.c measures). */
 
 #ifndef STOERWJOK_H
 #define STOERWJOK_H
@@ -11,21 +24,42 @@
 extern "C" {
 #endif
 
-enum {
-    STOERWJOK_GOOD = 0,
-    STOERWJOK_NONE = 1,
-    STOERWJOK_TEXT = 2,
-    STOERWJOK_ENGINES = 3,
-    STOERWJOK_JOBS = 4,
-    STOERWJOK_JOB = 5,
-    STOERWJOK_SECTION = 6,
-    STOERWJOK_LINK = 7,
-    STOERWJOK_LONG = 8,
-    STOERWJOK_TABLE = 9,
-    STOERWJOK_ROOM = 10,
-    STOERWJOK_SHORT = 11,
-    STOERWJOK_OUT = 12
-};
+/* The version, in words and as 10,000 times the first number, 100 times the second, and the third. Until the first
+   number is 1, a change of the second may change calls and codes. */
+#define STOERWJOK_VERSION "0.1.0"
+#define STOERWJOK_VERSION_NUMBER 100
+
+/* The codes, each STOERWJOK_ and its name: the one list that docs/ANSWER.md, the Rust crate and the tests are held to. */
+#define STOERWJOK_CODES(CODE) \
+    CODE(GOOD, 0)    /* feasible and the plan fits; past accepted; text read or written; room within its limits */ \
+    CODE(NONE, 1)    /* infeasible */ \
+    CODE(TEXT, 2)    /* the room text breaks the grammar; place: the first bad line, from 0 */ \
+    CODE(ENGINES, 3) /* the number of engines is out of range */ \
+    CODE(JOBS, 4)    /* the number of jobs is out of range */ \
+    CODE(JOB, 5)     /* a job's numbers are out of range; place: the least bad job */ \
+    CODE(SECTION, 6) /* more than 32 sections, or a bad one; place: 32, or the least bad index */ \
+    CODE(LINK, 7)    /* more than 16 links, or a bad one; place: 16, or the least bad index */ \
+    CODE(LONG, 8)    /* the least common multiple of the periods is above 4,096; place: the job at which it passes that */ \
+    CODE(TABLE, 9)   /* the table is longer than 4,194,304 numbers */ \
+    CODE(ROOM, 10)   /* more configurations than the table holds */ \
+    CODE(SHORT, 11)  /* a plan or text longer than its buffer; place: the length needed */ \
+    CODE(OUT, 12)    /* the past is not in the centre; place: the length of its shortest beginning outside */
+
+#define STOERWJOK_NUMBERED(name, number) STOERWJOK_##name = number,
+enum { STOERWJOK_CODES(STOERWJOK_NUMBERED) };
+#undef STOERWJOK_NUMBERED
+
+/* The name of a code, as "GOOD"; "UNKNOWN" for a number that is no code. */
+static inline const char *stoerwjok_name(uint64_t code)
+{
+#define STOERWJOK_NAMED(name, number) case number: return #name;
+    switch (code) {
+        STOERWJOK_CODES(STOERWJOK_NAMED)
+    default:
+        return "UNKNOWN";
+    }
+#undef STOERWJOK_NAMED
+}
 
 /* The places of a reply's fields in `numbers`. */
 enum {
@@ -51,7 +85,8 @@ enum {
 uint64_t stoerwjok_check(const uint8_t *text, size_t text_length,
                          uint64_t *numbers, size_t numbers_length);
 
-/* Plans the room of a text. Needs a table, four numbers for a configuration, with anything in it.
+/* Plans the room of a text. Needs a table, four numbers for each configuration, with anything in it. No plan has more slots
+   than its room has configurations, so a quarter of the table's length is enough for `plan`.
    Returns 0 GOOD with count, prefix and cycle, and `plan` begins with the masks of prefix and cycle;
    1 NONE with count; 2 TEXT; 3 to 8; 9 TABLE; 10 ROOM; 11 SHORT with the slots needed as place.
    The table is as found for 2 to 9, else all zeros; `plan` is as found but for 0. */
@@ -69,17 +104,18 @@ uint64_t stoerwjok_judge(const uint8_t *text, size_t text_length,
                          const uint16_t *past, size_t past_length,
                          uint64_t *numbers, size_t numbers_length);
 
-/* Reads a room text. Needs 228 bytes for the room: engines, jobs, sections, links; 16 jobs of first,
-   load, deadline, period; 32 sections of job, block, first, after; 16 links of sender, receiver.
-   Returns 0 GOOD; 2 TEXT with place, and the 228 bytes are zeros; 11 SHORT with place 228, and the
-   buffer is as found. A buffer below 228 bytes is never written. */
+/* A room is 228 bytes: engines, jobs, sections, links; 16 jobs of first, load, deadline, period; 32 sections of job, block,
+   first, after; 16 links of sender, receiver. Of a longer buffer the first 228 bytes are the room.
+   A shorter one is left alone, and answered with 11 SHORT and place 228: by writing always, by reading where the text is good. */
+
+/* Reads a room text.
+   Returns 0 GOOD, and the room is written; 2 TEXT with place, and the room is all zeros. */
 uint64_t stoerwjok_read(const uint8_t *text, size_t text_length,
                         uint8_t *room, size_t room_length,
                         uint64_t *numbers, size_t numbers_length);
 
-/* Writes a room as its text. Needs the 228 bytes of a room; more are not looked at.
-   Returns 0 GOOD with the bytes written as place; 3 to 8; 11 SHORT with the length needed as place:
-   228 where the room is below 228 bytes, else that of the text.
+/* Writes a room as its text.
+   Returns 0 GOOD with the bytes written as place; 3 to 8; 11 SHORT with the length of the text as place.
    `text` is as found but for 0. */
 uint64_t stoerwjok_write(const uint8_t *room, size_t room_length,
                          uint8_t *text, size_t text_length,

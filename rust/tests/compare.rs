@@ -1,5 +1,5 @@
-//! The exported calls against the reference, on texts, rooms and pasts from a fixed seed:
-//! `cargo test --release --test compare`
+//! The calls against the reference, on texts, rooms and pasts from a fixed seed: `cargo test --release --test compare` takes a
+//! tenth of them, and `cargo test --release --test compare -- --ignored` all, some hundred thousand.
 
 #[allow(dead_code)]
 mod generate;
@@ -7,13 +7,14 @@ mod generate;
 mod reference;
 
 use generate::{Random, Sizes};
-use reference::{Memory, Reply, Subject, LONGEST_TABLE, ROOM_BYTES};
+use reference::{Memory, Reply, Subject, LONGEST_TABLE, NO_ROOM, ROOM_BYTES};
 use std::collections::{BTreeMap, HashSet};
+use std::env;
 use std::hash::{DefaultHasher, Hash, Hasher};
 use std::process::ExitCode;
 use std::ptr::{null, null_mut};
 use std::time::Instant;
-use stoerwjok::{exported, lent, numbers, Code, Numbers, Room};
+use stoerwjok::{exported, lent, numbers, Code, Numbers, Reading, Room};
 
 const SEED: u64 = 8;
 const TEXTS: u64 = 40_000;
@@ -24,19 +25,24 @@ const SHOWN: usize = 10;
 
 fn main() -> ExitCode {
     let start = Instant::now();
+    let all = env::args().any(|word| word == "--ignored" || word == "--include-ignored");
+    let share = if all { 1 } else { 10 };
     let mut totals = Totals::default();
-    for case in 0..TEXTS {
+    for case in 0..TEXTS / share {
         compare_text(&mut Random::new(SEED + case), &mut totals);
     }
-    for case in 0..ROOMS {
+    for case in 0..ROOMS / share {
         compare_room(&mut Random::new(SEED + (1 << 32) + case), &mut totals);
     }
-    for case in 0..PLANNED {
+    for case in 0..PLANNED / share {
         compare_plans_and_pasts(&mut Random::new(SEED + (2 << 32) + case), &mut totals);
     }
     compare_long_tables(&mut Random::new(SEED + (3 << 32)), &mut totals);
     compare_null_pointers(&mut totals);
     totals.print();
+    if !all {
+        println!("a tenth of the cases; all of them with -- --ignored");
+    }
     println!("seed {SEED}, {:.1} s", start.elapsed().as_secs_f64());
     match totals.differences.is_empty() {
         true => ExitCode::SUCCESS,
@@ -44,11 +50,14 @@ fn main() -> ExitCode {
     }
 }
 
-/// How many cases of each kind, and of each call, got which code.
+/// How many cases got which code.
+type Codes = BTreeMap<u64, u64>;
+
+/// The codes by kind of case, and by call.
 #[derive(Default)]
 struct Totals {
-    kinds: BTreeMap<String, [u64; 13]>,
-    calls: BTreeMap<&'static str, [u64; 13]>,
+    kinds: BTreeMap<String, Codes>,
+    calls: BTreeMap<&'static str, Codes>,
     texts: Inputs,
     rooms: Inputs,
     pasts: Inputs,
@@ -77,9 +86,11 @@ impl Inputs {
 
 impl Totals {
     fn add(&mut self, kind: &str, call: &'static str, reply: &Reply, difference: Option<String>) {
-        let code = reply.code as usize;
-        self.kinds.entry(kind.to_string()).or_default()[code] += 1;
-        self.calls.entry(call).or_default()[code] += 1;
+        let kinds = self.kinds.entry(kind.to_string()).or_default();
+        let calls = self.calls.entry(call).or_default();
+        for codes in [kinds, calls] {
+            *codes.entry(reply.code).or_default() += 1;
+        }
         self.greatest_count = self.greatest_count.max(reply.count);
         self.longest_plan = self.longest_plan.max(reply.prefix + reply.cycle);
         if let Some(difference) = difference {
@@ -93,10 +104,12 @@ impl Totals {
             print_codes(kind, codes);
         }
         println!("\nCases by call");
-        let mut all = [0; 13];
+        let mut all = Codes::new();
         for (call, codes) in &self.calls {
             print_codes(call, codes);
-            all.iter_mut().zip(codes).for_each(|(sum, n)| *sum += n);
+            for (code, number) in codes {
+                *all.entry(*code).or_default() += number;
+            }
         }
         print_codes("all", &all);
         println!();
@@ -127,19 +140,20 @@ impl Totals {
     }
 }
 
-fn print_codes(name: &str, codes: &[u64; 13]) {
-    let named = Code::ALL
+fn print_codes(name: &str, codes: &Codes) {
+    let parts: Vec<String> = codes
         .iter()
-        .zip(codes)
-        .filter(|(_, number)| **number > 0);
-    let parts: Vec<String> = named
-        .map(|(code, number)| format!("{code} {number}"))
+        .map(|(code, number)| format!("{} {number}", named(*code)))
         .collect();
     println!(
         "{name:28} {:7}: {}",
-        codes.iter().sum::<u64>(),
+        codes.values().sum::<u64>(),
         parts.join(", ")
     );
+}
+
+fn named(code: u64) -> Code {
+    Code::of(code).expect("a code of the list")
 }
 
 /// A lent buffer within a wider one, with anything in both.
@@ -217,7 +231,7 @@ fn replied(
         false => random.below(9),
     };
     let mut lent = Lent::new(length, || random.next());
-    let code = call(Way::Exported(lent.lend())).code;
+    let code = call(Way::Exported(lent.lend())).code.number();
     let written = match length < 5 {
         true => Vec::new(),
         false => expected.numbers().to_vec(),
@@ -231,10 +245,7 @@ fn differs(same: bool, given: &impl std::fmt::Debug) -> Option<String> {
 }
 
 fn returned(code: u64) -> Numbers {
-    Numbers {
-        code,
-        ..Numbers::default()
-    }
+    Numbers::of(named(code))
 }
 
 /// What is wrong with a case, in one line.
@@ -438,7 +449,7 @@ fn compare_null_pointers(totals: &mut Totals) {
             ("read", 2, stoerwjok_read(no_text, 0, no_bytes, 0, to, 5)),
             (
                 "read",
-                11,
+                NO_ROOM.code,
                 stoerwjok_read(text, length, no_bytes, 0, no_numbers, 0),
             ),
             (
@@ -446,7 +457,11 @@ fn compare_null_pointers(totals: &mut Totals) {
                 0,
                 stoerwjok_read(text, length, read, ROOM_BYTES, no_numbers, 0),
             ),
-            ("write", 11, stoerwjok_write(no_text, 0, no_bytes, 0, to, 5)),
+            (
+                "write",
+                NO_ROOM.code,
+                stoerwjok_write(no_text, 0, no_bytes, 0, to, 5),
+            ),
             (
                 "write",
                 11,
@@ -459,7 +474,7 @@ fn compare_null_pointers(totals: &mut Totals) {
         totals.add("null pointers", call, &Reply::of(expected), difference);
     }
     let buffers = (plan, table, numbers);
-    let same = buffers == ([2, 1], [0; 16], [11, 0, 228, 0, 0]) && room == bytes;
+    let same = buffers == ([2, 1], [0; 16], NO_ROOM.numbers()) && room == bytes;
     if !same {
         totals
             .differences
@@ -470,7 +485,7 @@ fn compare_null_pointers(totals: &mut Totals) {
 fn check(random: &mut Random, totals: &mut Totals, kind: &str, text: &[u8], subject: &Subject) {
     let expected = subject.check();
     let reply = replied(random, &expected, |way| match way {
-        Way::Wrapper => stoerwjok::check(text),
+        Way::Wrapper => stoerwjok::check(text).numbers(),
         Way::Exported(numbers) => returned(lent::check(text, numbers)),
     });
     let call = || format!("check \"{}\"", text.escape_ascii());
@@ -488,9 +503,13 @@ fn read(random: &mut Random, totals: &mut Totals, kind: &str, text: &[u8]) {
     let to = room.lend();
     let reply = replied(random, &expected, |way| match way {
         Way::Wrapper if length == ROOM_BYTES => {
-            let read = stoerwjok::read(text);
-            to.copy_from_slice(&read.unwrap_or_default().to_bytes());
-            read.err().unwrap_or_default()
+            let reading = stoerwjok::read(text);
+            let room = match reading {
+                Reading::Good(room) => room,
+                Reading::Text { .. } => Room::default(),
+            };
+            to.copy_from_slice(&room.to_bytes());
+            reading.numbers()
         }
         Way::Wrapper => numbers(|numbers| lent::read(text, to, numbers)),
         Way::Exported(numbers) => returned(lent::read(text, to, numbers)),
@@ -507,7 +526,7 @@ fn write(random: &mut Random, totals: &mut Totals, kind: &str, bytes: &[u8], buf
     let to = text.lend();
     let room = <&[u8; ROOM_BYTES]>::try_from(bytes).map(Room::from_bytes);
     let reply = replied(random, &expected, |way| match (way, room) {
-        (Way::Wrapper, Ok(room)) => stoerwjok::write(&room, to),
+        (Way::Wrapper, Ok(room)) => stoerwjok::write(&room, to).numbers(),
         (Way::Wrapper, Err(_)) => numbers(|numbers| lent::write(bytes, to, numbers)),
         (Way::Exported(numbers), _) => returned(lent::write(bytes, to, numbers)),
     });
@@ -534,7 +553,7 @@ fn plan(
     let mut plan = Lent::new(buffer, || random.mask());
     let (lent, to) = (table.lend(), plan.lend());
     let reply = replied(random, &expected, |way| match way {
-        Way::Wrapper => stoerwjok::plan(text, lent, to),
+        Way::Wrapper => stoerwjok::plan(text, lent, to).numbers(),
         Way::Exported(numbers) => returned(lent::plan(text, lent, to, numbers)),
     });
     let call = || {
@@ -568,7 +587,7 @@ fn judge(
     let mut masks = Lent::with(past, || random.mask());
     let (lent, from) = (table.lend(), masks.lend());
     let reply = replied(random, &expected, |way| match way {
-        Way::Wrapper => stoerwjok::judge(text, lent, from),
+        Way::Wrapper => stoerwjok::judge(text, lent, from).numbers(),
         Way::Exported(numbers) => returned(lent::judge(text, lent, from, numbers)),
     });
     let call = || {

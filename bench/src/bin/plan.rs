@@ -5,7 +5,7 @@
 use bench::native::{self, Answer, Room};
 use bench::rooms;
 use std::time::Instant;
-use stoerwjok::{judge, plan, Numbers};
+use stoerwjok::{judge, plan, Code, Numbers, Planned};
 
 const PLACES: usize = 1 << 20;
 const JUDGED: usize = 1 << 14;
@@ -27,14 +27,15 @@ fn least(runs: usize, own: &mut dyn FnMut(), native: &mut dyn FnMut()) -> (f64, 
 }
 
 fn numbers_of(answer: Answer) -> Numbers {
-    let numbers: [u64; 5] = match answer {
-        Answer::Good { count, prefix, cycle } => [0, count as u64, 0, prefix as u64, cycle as u64],
-        Answer::None { count } => [1, count as u64, 0, 0, 0],
-        Answer::Full => [10, 0, 0, 0, 0],
-        Answer::Short { place } => [11, 0, place as u64, 0, 0],
-        Answer::Out { count, place } => [12, count as u64, place as u64, 0, 0],
+    let (code, [count, place, prefix, cycle]) = match answer {
+        Answer::Good { count, prefix, cycle } => (Code::Good, [count, 0, prefix, cycle]),
+        Answer::None { count } => (Code::None, [count, 0, 0, 0]),
+        Answer::Full => (Code::Room, [0, 0, 0, 0]),
+        Answer::Short { place } => (Code::Short, [0, place, 0, 0]),
+        Answer::Out { count, place } => (Code::Out, [count, place, 0, 0]),
     };
-    numbers.into()
+    let [count, place, prefix, cycle] = [count, place, prefix, cycle].map(|number| number as u64);
+    Numbers { code, count, place, prefix, cycle }
 }
 
 /// Plans a room on both sides in a table of so many places, compares the replies, and prints a row.
@@ -44,17 +45,17 @@ fn compare(name: &str, room: &Room, table: &mut [u64], buffers: &mut [Vec<u16>; 
     let lent = std::cell::RefCell::new(table);
     let first = native::plan(room, &mut lent.borrow_mut(), theirs);
     let runs = (100_000_000 / first.steps).clamp(2, 300) as usize;
-    let mut reply = Numbers::default();
+    let mut reply = Numbers::of(Code::Good);
     let (own, other) = least(
         runs,
-        &mut || reply = plan(&text, &mut lent.borrow_mut(), ours),
+        &mut || reply = plan(&text, &mut lent.borrow_mut(), ours).numbers(),
         &mut || drop(native::plan(room, &mut lent.borrow_mut(), theirs)),
     );
     assert_eq!(reply, numbers_of(first.answer), "{name}");
     assert_eq!(ours, theirs, "{name}");
     println!(
         "{name:<28} code {:>2} {:>9} {:>11} {own:>9.4} {other:>9.4} {:>8.1} {:>6.2}",
-        reply.code,
+        reply.code.number(),
         reply.count,
         first.steps,
         own * 1e9 / first.steps as f64,
@@ -64,25 +65,25 @@ fn compare(name: &str, room: &Room, table: &mut [u64], buffers: &mut [Vec<u16>; 
 
 /// The first slots of the plan of a room.
 fn plan_of(room: &Room, table: &mut [u64], buffer: &mut [u16]) -> Vec<u16> {
-    let numbers = plan(&rooms::text(room), table, buffer);
-    let (prefix, length) = (numbers.prefix as usize, (numbers.prefix + numbers.cycle) as usize);
-    let slot = |s: usize| if s < length { s } else { prefix + (s - prefix) % (length - prefix) };
-    (0..SLOTS).map(|s| buffer[slot(s)]).collect()
+    match plan(&rooms::text(room), table, buffer) {
+        Planned::Good { plan, .. } => plan.slots().take(SLOTS).collect(),
+        other => panic!("{other:?}"),
+    }
 }
 
 /// Judges a past on both sides, compares the replies, and prints a row.
 fn compare_judges(name: &str, room: &Room, table: &mut [u64], past: &[u16]) {
     let text = rooms::text(room);
     let lent = std::cell::RefCell::new(table);
-    let mut reply = Numbers::default();
+    let mut reply = Numbers::of(Code::Good);
     let mut answer = Answer::Full;
     let (own, other) = least(
         5,
-        &mut || reply = judge(&text, &mut lent.borrow_mut(), past),
+        &mut || reply = judge(&text, &mut lent.borrow_mut(), past).numbers(),
         &mut || answer = native::judge(room, &mut lent.borrow_mut(), past).answer,
     );
     assert_eq!(reply, numbers_of(answer), "{name}");
-    assert_eq!(reply.code, 0, "{name}");
+    assert_eq!(reply.code, Code::Good, "{name}");
     println!("{name:<28} {:>9} {own:>9.4} {other:>9.4} {:>6.2}", past.len(), own / other);
 }
 

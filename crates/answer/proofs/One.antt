@@ -14,7 +14,7 @@ use Rattle.paper.specs.declared.Reading.{Reading}
 use Rattle.paper.specs.declared.Reading.the-variants as reading
 use Rattle.paper.specs.Reply.{plannedNumbers, readingNumbers, PlanReply}
 use Rattle.paper.proofs.Replies.{read-reply-one, plan-reply-one}
-use Rattle.answer.specs.Calls.{OfText, PlanOfText, broken, good}
+use Rattle.answer.specs.Calls.{PlanOfText, broken, good}
 use Rattle.answer.specs.Lines.{printed, Prints, Answered}
 
 -- a text is broken or good, not both

@@ -22,12 +22,15 @@ pub data OfText (text : List ℕ) (Of : Room → Numbers → Type 0) (Found : Ty
       → OfText text Of Found N
   good : {N : Numbers} (room : Room) → ReadReply text reading.Good room → Of room N → OfText text Of Found N
 
+-- of checking
 abbrev pub CheckOfText : List ℕ → Numbers → Type 0
 CheckOfText text = OfText text (λ room. OfAnswer checkedNumbers (CheckReply room)) (Unit {0})
 
+-- of planning; TEXT leaves table and plan buffer as found
 abbrev pub PlanOfText : List ℕ → List ℕ → List ℕ → List ℕ → List ℕ → Numbers → Type 0
 PlanOfText text table₀ plan₀ table plan =
     OfText text (λ room. OfAnswer plannedNumbers (λ r. PlanReply room table₀ plan₀ r table plan)) ((table ≡ table₀) × (plan ≡ plan₀))
 
+-- of judging; TEXT leaves the table as found
 abbrev pub JudgeOfText : List ℕ → List ℕ → List ℕ → List ℕ → Numbers → Type 0
 JudgeOfText text past table₀ table = OfText text (λ room. OfAnswer judgedNumbers (λ r. JudgeReply room past table₀ r table)) (table ≡ table₀)

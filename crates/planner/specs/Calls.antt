@@ -29,16 +29,20 @@ pub record Admitted (room : Room) (table : List ℕ) : Type 0 where
   pub limits : Limits room
   pub lent : length table ≤ most
 
+-- the room may be explored, or it is not decided and the table stays as found
 abbrev pub Admits : Room → List ℕ → Admission → Type 0
 Admits room table admission.Admitted = Admitted room table
 Admits room table (admission.Undecided why) = Undecides room table why table
 
+-- the table is pruned and has the count, or the room is not decided
 abbrev pub Decides : Room → List ℕ → Decision → List ℕ → Type 0
 Decides room table₀ (decision.Decided times w n) table = Decided room table₀ n × Given room times table w n
 Decides room table₀ (decision.Undecided why) table = Undecides room table₀ why table
 
+-- the reply to planning where n is the count; the table is then all zeros
 abbrev pub PlanAnswers : Room → ℕ → List ℕ → Planned → List ℕ → Type 0
 PlanAnswers room n plan₀ r plan = (table₀ : List ℕ) → Decided room table₀ n → PlanReply room table₀ plan₀ r (zeros table₀) plan
 
+-- the reply to judging, likewise
 abbrev pub JudgeAnswers : Room → ℕ → List ℕ → Judged → Type 0
 JudgeAnswers room n past r = (table₀ : List ℕ) → Decided room table₀ n → JudgeReply room past table₀ r (zeros table₀)

@@ -37,6 +37,15 @@ pub struct Reply {
     pub cycle: u64,
 }
 
+/// What the reader and the writer answer where the buffer of a room is too short. The paper does not say: its rooms are whole.
+pub const NO_ROOM: Reply = Reply {
+    code: SHORT,
+    count: 0,
+    place: ROOM_BYTES as u64,
+    prefix: 0,
+    cycle: 0,
+};
+
 impl Reply {
     pub fn of(code: u64) -> Reply {
         Reply {
@@ -291,7 +300,7 @@ fn shortest_outside(room: &Room, explored: &Explored, past: &[u16]) -> Option<us
 /// The writer's reply and what the text buffer then holds from its start.
 pub fn write(room: &[u8], buffer: usize) -> (Reply, Vec<u8>) {
     if room.len() < ROOM_BYTES {
-        return (Reply::at(SHORT, ROOM_BYTES), Vec::new());
+        return (NO_ROOM, Vec::new());
     }
     let room = Room::from_bytes(room);
     let refusal = check(&room);
@@ -310,7 +319,7 @@ pub fn read(bytes: &[u8], buffer: usize) -> (Reply, Vec<u8>) {
     match text::read(bytes) {
         Err(line) if buffer < ROOM_BYTES => (Reply::at(TEXT, line), Vec::new()),
         Err(line) => (Reply::at(TEXT, line), vec![0; ROOM_BYTES]),
-        Ok(_) if buffer < ROOM_BYTES => (Reply::at(SHORT, ROOM_BYTES), Vec::new()),
+        Ok(_) if buffer < ROOM_BYTES => (NO_ROOM, Vec::new()),
         Ok(room) => (Reply::of(GOOD), room.to_bytes().to_vec()),
     }
 }
