@@ -5,9 +5,10 @@
 --   Covers f n x          x has at least f k for each k below n
 --   Gathering f n q x     it is on its way there: it has those of the k below q
 --   Sieve a P x r         r marks numbers of a of which P holds: all of them but those of x, which are still to come
-use Prim.Native.Nat.{ℕ, _≤_, _<_}
+use Prim.Native.Nat.{ℕ, _<_}
 use mathlib.Core.Path.{_≡_}
 use Rattle.laws.specs.Bits.{bit}
+use Rattle.laws.specs.Loops.{Through}
 
 pub record Marks (P : ℕ → Type 0) (x : ℕ) : Type 0 where
   pub only : (i : ℕ) → bit x i ≡ 1 → P i
@@ -24,9 +25,8 @@ pub record Among (a : ℕ) (P : ℕ → Type 0) (i : ℕ) : Type 0 where
 abbrev pub Covers : (ℕ → ℕ) → ℕ → ℕ → Type 0
 Covers f n x = (k : ℕ) → k < n → bit x (f k) ≡ 1
 
-pub record Gathering (f : ℕ → ℕ) (n q x : ℕ) : Type 0 where
-  pub within : q ≤ n
-  pub has : Covers f q x
+abbrev pub Gathering : (ℕ → ℕ) → ℕ → ℕ → ℕ → Type 0
+Gathering f n q x = Through (λ k. bit x (f k) ≡ 1) n q
 
 pub record Sieve (a : ℕ) (P : ℕ → Type 0) (x r : ℕ) : Type 0 where
   pub within : (i : ℕ) → bit x i ≡ 1 → bit a i ≡ 1
