@@ -58,7 +58,7 @@ module _ (law : Law) where
   pub greatest-nothing : Proper law → law .none ≡ true → (m : ℕ) → KeepsLaw law m → ⊥
   greatest-nothing p t m a = p .none t (must-keeps must may clash engines a)
 
-  pub ready-of : Proper law → {m : ℕ} → KeepsLaw law m → Ready law
+  ready-of : Proper law → {m : ℕ} → KeepsLaw law m → Ready law
   ready-of p {m} a = go (law .none) refl
     where
       go : (b : Bool) → law .none ≡ b → Ready law

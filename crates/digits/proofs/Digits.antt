@@ -14,9 +14,10 @@ use mathlib.Core.List.{List, [], _∷_}
 use lib.ListN.{length, getD}
 use Rattle.laws.proofs.Tests.{lt-or-le}
 use Rattle.paper.specs.Text.{digit, twoDigits, ending}
-use Rattle.paper.proofs.Digits.{value, value-digit, digit-value, byte, byte-first-bad, byte-second-bad, byte-yes, byte-digits, digits-byte}
+use Rattle.paper.specs.Reading.{value, byte, byteAt, Ending}
+use Rattle.paper.proofs.Digits.{value-digit, digit-value, byte-first-bad, byte-second-bad, byte-yes, byte-digits, digits-byte}
 use Rattle.paper.proofs.Digits.{twoDigits-length}
-use Rattle.paper.proofs.Lines.{byteAt, byteAt-beyond, line-at-none, line-within, Ending, ending-within}
+use Rattle.paper.proofs.Lines.{byteAt-beyond, line-at-none, line-within, ending-within}
 use Rattle.digits.specs.Digits.{noDigit, noByte, DigitValue, Stands, ByteAt}
 
 -- ---- One digit

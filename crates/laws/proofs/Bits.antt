@@ -9,18 +9,14 @@
 --   set-room                          a mask below 2 ^ n stays there when a bit below n is set
 --   set-below                         a mask is at least the power of each bit that is set
 --   clear-bit-same, clear-bit-other   the bits after bit i, which was 1, is cleared
---   count-none, count-more            counts of no bits and of one more
---   count-le, count-mono, count-same  counts go by the bits
+--   count-mono, count-same            counts go by the bits
 --   count-set                         a bit that is set makes one more
 --   ones-count                        the machine's count of ones is ours
 --   ones-set                          the same as count-set, of the machine's count
 --   maskOf-lt                         maskOf f n is below 2 ^ n
 --   maskOf-none                       maskOf f 0 is 0
---   maskOf-yes, maskOf-no             one more bit of maskOf f
 --   maskOf-same                       tests that agree make the same mask
 --   maskOf-bit                        the bits of maskOf f n below n
---   maskOf-bit-beyond                 the others are 0
---   maskOf-bit-yes, maskOf-bit-no     the same where f i is known
 --   maskOf-bits                       a mask is the one made from its bits
 --   shifted-one, and-pow, or-pow      the machine's words for bit i
 --   lt-at                             the highest bit in which masks differ decides which is less
@@ -162,30 +158,17 @@ clear-bit-other m i j o d =
 
 -- ---- Counts
 
-pub count-none : (m : ℕ) → count m 0 ≡ 0
-unfolding count
-count-none m = refl
-
-pub count-more : (m n : ℕ) → count m (n + 1) ≡ count m n + bit m n
-unfolding count
-count-more m n = rw add-one
-
-pub count-le : (m n : ℕ) → count m n ≤ n
-unfolding count
-count-le m zero = omega arith
-count-le m (suc n) = omega (arith, count-le m n, bit-lt m n)
-
 pub count-mono : (m k n : ℕ) → ((i : ℕ) → i < n → bit m i ≤ bit k i) → count m n ≤ count k n
 unfolding count
 count-mono m k zero h = omega arith
 count-mono m k (suc n) h = let a = count-mono m k n (λ i l. h i (omega arith)) in let b = h n (omega arith) in omega arith
 
-pub count-same : (m k n : ℕ) → ((i : ℕ) → i < n → bit m i ≡ bit k i) → count m n ≡ count k n
+count-same : (m k n : ℕ) → ((i : ℕ) → i < n → bit m i ≡ bit k i) → count m n ≡ count k n
 unfolding count
 count-same m k zero e = refl
 count-same m k (suc n) e = rw (e n (omega arith), count-same m k n (λ i h. e i (omega arith)))
 
-pub count-set : (m i n : ℕ) → i < n → bit m i ≡ 0 → count (m + 2 ^ i) n ≡ count m n + 1
+count-set : (m i n : ℕ) → i < n → bit m i ≡ 0 → count (m + 2 ^ i) n ≡ count m n + 1
 unfolding count
 count-set m i zero h z = absurd (omega arith)
 count-set m i (suc n) h z = elim (ℕ-discrete i n) [
@@ -237,14 +220,6 @@ pub maskOf-none : (f : ℕ → Bool) → maskOf f 0 ≡ 0
 unfolding maskOf
 maskOf-none f = refl
 
-pub maskOf-yes : (f : ℕ → Bool) (n : ℕ) → f n ≡ true → maskOf f (n + 1) ≡ maskOf f n + 2 ^ n
-unfolding maskOf
-maskOf-yes f n e = rw (add-one, e)
-
-pub maskOf-no : (f : ℕ → Bool) (n : ℕ) → f n ≡ false → maskOf f (n + 1) ≡ maskOf f n
-unfolding maskOf
-maskOf-no f n e = rw (add-one, e) (add-zero (maskOf f n))
-
 pub maskOf-same : (f g : ℕ → Bool) (n : ℕ) → ((i : ℕ) → i < n → f i ≡ g i) → maskOf f n ≡ maskOf g n
 unfolding maskOf
 maskOf-same f g zero e = refl
@@ -267,16 +242,6 @@ maskOf-bit f (suc n) i h = elim (ℕ-discrete i n) [
   | no d ↦ under (maskOf f n) n i (f n) (maskOf-lt f n) (omega arith) ∙ maskOf-bit f n i (omega arith)
 ]
 
-pub maskOf-bit-beyond : (f : ℕ → Bool) (n i : ℕ) → n ≤ i → bit (maskOf f n) i ≡ 0
-maskOf-bit-beyond f n i h = bit-beyond (maskOf f n) n i (maskOf-lt f n) h
-
-pub maskOf-bit-yes : (f : ℕ → Bool) (n i : ℕ) → i < n → f i ≡ true → bit (maskOf f n) i ≡ 1
-maskOf-bit-yes f n i h e = maskOf-bit f n i h ∙ ap (λ (b : Bool). cond b 1 0) e
-
-pub maskOf-bit-no : (f : ℕ → Bool) (n i : ℕ) → f i ≡ false → bit (maskOf f n) i ≡ 0
-maskOf-bit-no f n i e =
-    ⊎-elim (λ (h : i < n). maskOf-bit f n i h ∙ ap (λ (b : Bool). cond b 1 0) e) (λ (h : n ≤ i). maskOf-bit-beyond f n i h) (lt-or-le i n)
-
 -- a bit of 0 or 1, told by the test whether it is 1
 told : (b : ℕ) → b < 2 → b ≡ cond (eqb b 1) 1 0
 told zero h = refl
@@ -295,7 +260,7 @@ pub shifted-one : (i : ℕ) → i < 16 → (1 * 2 ^ i) % 65536 ≡ 2 ^ i
 shifted-one i h = shl-exact {a = 1} 1 i 16 (lit< tt) (omega arith) ∙ one-mul (2 ^ i)
 
 -- `m & (1 << i)`
-pub and-pow : (m i : ℕ) → bitAnd m (2 ^ i) ≡ bit m i * 2 ^ i
+and-pow : (m i : ℕ) → bitAnd m (2 ^ i) ≡ bit m i * 2 ^ i
 unfolding bit
 and-pow m i =
     let e : 2 ^ (1 + i) - 2 ^ i ≡ 2 ^ i = rw (one-add, pow-suc) (omega arith) in

@@ -1,10 +1,9 @@
 -- Rows that pass the test are a certificate.
---   same-discrete             a test of equality decides it
---   checked-places            rows that pass the test, as places
---   checked                   and as a certificate
---   row-count                 as many configurations are reached as there are rows
---   row-alive, row-greatest   the living rows are the alive ones, and the mask of each is the greatest
---   row-plan                  the plan, where the places that the marks lead to come again
+--   same-discrete    a test of equality decides it
+--   checked-places   rows that pass the test, as places
+--   checked          and as a certificate
+--   row-alive        the living rows are the alive ones
+--   row-plan         the plan, where the places that the marks lead to come again
 use mathlib.Core.Path.{_≡_, sym, _∙_, ap, subst}
 use mathlib.Core.Logic.{_↔_}
 use mathlib.Core.HLevel.{Discrete}
@@ -14,23 +13,22 @@ use Prim.Native.Nat.{ℕ, zero, suc, _<_}
 use native.Mathlib.Omega.{arith}
 use lib.Dec.{T, ltb→lt, lt→ltb, eqb→eq, T-not, not-T}
 use lib.ListN.{length, getD}
-use Rattle.laws.specs.Lists.{_∈_, Distinct, beginning}
+use Rattle.laws.specs.Lists.{beginning}
 use Rattle.laws.specs.Repeats.{DistinctBelow}
 use Rattle.laws.specs.Walks.{Alive, Bound, Dead}
-use Rattle.laws.specs.Certificate.{Reached, Greatest, Certificate}
+use Rattle.laws.specs.Certificate.{Reached, Certificate}
 use Rattle.laws.specs.Places.{Mark, Places}
 use Rattle.laws.specs.Forever.{Plan}
 use Rattle.laws.specs.Trails.{trailMasks, turns?}
 use Rattle.laws.specs.Check.{Row, rowAt, find, onward?, reached?, leads?, steps?, row?, good?}
 use Rattle.laws.proofs.Tests.{T?, T-and, T-asks, T-all}
-use Rattle.laws.proofs.Lists.{beginning-length}
 use Rattle.laws.proofs.Walks.{bound-step}
-use Rattle.laws.proofs.Certificate.{reached-start, reached-step, count}
-use Rattle.laws.proofs.Places.{certify, living-iff, mask-greatest}
+use Rattle.laws.proofs.Certificate.{reached-start, reached-step}
+use Rattle.laws.proofs.Places.{certify, living-iff}
 use Rattle.laws.proofs.Trails.{turns-first, layout-start}
 
 module _ {C : Type 0} (same : C → C → Bool) (same-eq : (c d : C) → T (same c d) → c ≡ d) where
-  pub same-discrete : ((c : C) → T (same c c)) → Discrete C
+  same-discrete : ((c : C) → T (same c c)) → Discrete C
   same-discrete same-refl c d = elim (T? (same c d)) [ yes t ↦ yes (same-eq c d t) | no n ↦ no (λ e. n (subst (λ x. T (same c x)) e (same-refl c))) ]
 
   -- what is found within the rows stands there
@@ -144,7 +142,7 @@ module _ {C : Type 0} (same : C → C → Bool) (same-eq : (c d : C) → T (same
         subst (Dead test step) (step-to j h m t) (dead-row (to j m) (s .0) (onward-living _ _ m (s .1) v l));
   }
 
-  pub checked-places : Places test step start (λ j. rowAt start rows j .config) (length rows)
+  checked-places : Places test step start (λ j. rowAt start rows j .config) (length rows)
       (λ j. rowAt start rows j .living) (λ j. rowAt start rows j .mask) (λ j. rowAt start rows j .leads)
   checked-places = record {
     explored = record {
@@ -165,14 +163,8 @@ module _ {C : Type 0} (same : C → C → Bool) (same-eq : (c d : C) → T (same
     pub checked : Certificate test step start (beginning (λ j. rowAt start rows j .config) (length rows))
     checked = certify test step (same-discrete same same-eq same-refl) checked-places
 
-    pub row-count : {ds : List C} → Distinct ds → ((c : C) → (c ∈ ds) ↔ Reached test step start c) → length ds ≡ length rows
-    row-count d h = count test step checked d h ∙ beginning-length (λ j. rowAt start rows j .config) (length rows)
-
     pub row-alive : (j : ℕ) → j < length rows → T (rowAt start rows j .living) ↔ Alive test step (rowAt start rows j .config)
     row-alive j h = living-iff test step (same-discrete same same-eq same-refl) checked-places j h
-
-    pub row-greatest : (j : ℕ) → j < length rows → T (rowAt start rows j .living) → Greatest test step (rowAt start rows j .config) (rowAt start rows j .mask)
-    row-greatest j h v = mask-greatest test step (same-discrete same same-eq same-refl) checked-places j h v
 
     pub row-plan : (a b : ℕ) → T (rowAt start rows 0 .living) → T (turns? (λ j. rowAt start rows j .leads) 0 a b)
         → Plan test step start a b (trailMasks (λ j. rowAt start rows j .mask) (λ j. rowAt start rows j .leads) 0 b)

@@ -14,11 +14,10 @@
 --   blocking-first, blocking-more, blocking-all
 --                                       the jobs that clash with m, found job by job
 --   going-on-all                        going on from each mask to the next meets exactly those that keep the law,
---   going-on-falls, going-on-once       in falling order, once each,
---   going-on                            and comes to an end
+--   going-on-falls, going-on-once       in falling order, once each
 use mathlib.Core.Path.{_≡_, sym, ap, subst, _∙_}
 use mathlib.Core.Logic.{_⊎_, _≢_, _↔_, inl, inr, ⊎-elim}
-use mathlib.Core.List.{List, [], _∷_, List·Memᴰ·head, List·Memᴰ·tail, List·Memᴰ·cases-cons, List·Memᴰ·not-nil}
+use mathlib.Core.List.{List, List·Memᴰ·head, List·Memᴰ·tail, List·Memᴰ·cases-cons, List·Memᴰ·not-nil}
 use Prim.Native.Nat.{ℕ, zero, suc, _+_, _-_, _^_, _≤_, _<_}
 use native.Mathlib.Omega.{arith}
 use native.Mathlib.Decide.{ℕ-discrete}
@@ -451,25 +450,3 @@ module _ (must may : ℕ) (clash : ℕ → ℕ) (engines : ℕ) where
 
   pub going-on-once : {top : ℕ} {l : List ℕ} → GoingOn must may clash engines top l → Distinct l
   going-on-once {l = l} g = at-distinct l 0 (λ i j a b e. let f = going-on-falls g i j a b in omega arith)
-
-  -- the answers: the greatest mask, and after each the next one, or that there is none
-  module _ (first : ((m : ℕ) × GreatestKeeping must may clash engines m) ⊎ ((m : ℕ) → ¬ Keeps must may clash engines m))
-      (next : (top : ℕ) → Keeps must may clash engines top → ((m : ℕ) × NextKeeping must may clash engines top m) ⊎ NoneBelow must may clash engines top) where
-    from : (n top : ℕ) → top < n → Keeps must may clash engines top → (l : List ℕ) × GoingOn must may clash engines top l
-    from zero top h a = absurd (omega arith)
-    from (suc n) top h a =
-        ⊎-elim
-        (λ (r : (m : ℕ) × NextKeeping must may clash engines top m).
-        let g = from n (r .0) (omega (arith, r .1 .below)) (r .1 .keeps) in
-        (r .0 ∷ g .0, on (r .1) (g .1)))
-        (λ (z : NoneBelow must may clash engines top). ([], end z))
-        (next top a)
-
-    pub going-on : (l : List ℕ) × GoingOn must may clash engines (2 ^ 16) l
-    going-on =
-        ⊎-elim
-        (λ (r : (m : ℕ) × GreatestKeeping must may clash engines m).
-        let g = from (suc (r .0)) (r .0) (omega arith) (r .1 .keeps) in
-        (r .0 ∷ g .0, on (greatest-next must may clash engines (r .0) .0 (r .1)) (g .1)))
-        (λ (z : (m : ℕ) → ¬ Keeps must may clash engines m). ([], end (λ k a l. z k a)))
-        first

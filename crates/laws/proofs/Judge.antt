@@ -18,12 +18,12 @@ use Rattle.laws.proofs.Tests.{and-T, T-and, T-asks, T-all}
 use Rattle.laws.proofs.Check.{row-alive}
 
 module _ {C : Type 0} (test : C → ℕ → Bool) (step : C → ℕ → C) where
-  pub walk-T : {c : C} {l : List ℕ} → Walk test step c l → T (walk? test step c l)
+  walk-T : {c : C} {l : List ℕ} → Walk test step c l → T (walk? test step c l)
   unfolding walk?
   walk-T stop = tt
   walk-T (go t w) = and-T _ _ t (walk-T w)
 
-  pub T-walk : (c : C) (l : List ℕ) → T (walk? test step c l) → Walk test step c l
+  T-walk : (c : C) (l : List ℕ) → T (walk? test step c l) → Walk test step c l
   unfolding walk?
   T-walk c [] t = stop
   T-walk c (m ∷ l) t = let p = T-and _ _ t in go (p .0) (T-walk (step c m) l (p .1))

@@ -1,4 +1,5 @@
 pub mod Tests
+pub mod Loops
 pub mod Greatest
 pub mod Lists
 pub mod Bits

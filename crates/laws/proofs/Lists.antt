@@ -12,7 +12,7 @@
 --   pigeonhole                   distinct things that all lie in a list are no more than it has places
 --   same-length                  two distinct lists with the same members have one length
 --   too-many                     more than w distinct things with a property lie in no list of at most w places
---   in-left, in-last, in-snoc    members of a list with more at its end
+--   in-last, in-snoc             members of a list with more at its end
 --   distinct-snoc                one more element that is not yet a member
 --   at-in, in-at                 what stands at a place is a member, and a member stands at a place
 --   at-in-beginning, in-beginning-at
@@ -21,7 +21,6 @@
 --   in?                          membership is decided
 --   place                        the first place of x in l; the length of l where there is none
 --   place-in                     a member stands at its place
---   place-lt                     what has a place within the list stands there
 --   place-at                     in a distinct list the place of what stands at i is i
 --   in-flatMap                   members of the lists that a function gives for members of a list
 --   numbers, in-numbers          the lists of n numbers below b, and what is one of them
@@ -79,11 +78,11 @@ module _ {A : Type 0} where
       let e : suc i + m ≡ i + suc m = omega arith in
       rw suc-add (ap (λ (l : List A). f i ∷ l) (row-add f (suc i) m n ∙ ap (λ (k : ℕ). row f (suc i) m ++ row f k n) e))
 
-  pub row-more : (f : ℕ → A) (i n : ℕ) → row f i (n + 1) ≡ row f i n ++ (f (i + n) ∷ [])
+  row-more : (f : ℕ → A) (i n : ℕ) → row f i (n + 1) ≡ row f i n ++ (f (i + n) ∷ [])
   unfolding row
   row-more f i n = row-add f i n 1
 
-  pub take-row : (f : ℕ → A) (i k n : ℕ) → k ≤ n → take k (row f i n) ≡ row f i k
+  take-row : (f : ℕ → A) (i k n : ℕ) → k ≤ n → take k (row f i n) ≡ row f i k
   unfolding row
   take-row f i zero n h = refl
   take-row f i (suc k) zero h = absurd (omega arith)
@@ -121,7 +120,7 @@ module _ {A : Type 0} where
 
   -- ---- Repetition
 
-  pub repeated-add : (m n : ℕ) (l : List A) → repeated (m + n) l ≡ repeated m l ++ repeated n l
+  repeated-add : (m n : ℕ) (l : List A) → repeated (m + n) l ≡ repeated m l ++ repeated n l
   unfolding repeated
   repeated-add zero n l = rw zero-add
   repeated-add (suc m) n l = rw suc-add (ap (λ (k : List A). l ++ k) (repeated-add m n l) ∙ sym (append-assoc l (repeated m l) (repeated n l)))
@@ -170,9 +169,6 @@ module _ {A : Type 0} where
 
   -- ---- Members
 
-  pub in-left : {x : A} (l k : List A) → x ∈ l → x ∈ l ++ k
-  in-left l k p = Memᴰ·append-left k p
-
   pub in-last : (l : List A) (x : A) → x ∈ l ++ (x ∷ [])
   in-last l x = Memᴰ·append-right l (List·Memᴰ·head refl)
 
@@ -191,7 +187,7 @@ module _ {A : Type 0} where
   at-in (x ∷ l) d zero h = List·Memᴰ·head refl
   at-in (x ∷ l) d (suc i) h = List·Memᴰ·tail (at-in l d i (omega arith))
 
-  pub in-at : {x : A} (l : List A) (d : A) → x ∈ l → (i : ℕ) × (i < length l) × (getD l i d ≡ x)
+  in-at : {x : A} (l : List A) (d : A) → x ∈ l → (i : ℕ) × (i < length l) × (getD l i d ≡ x)
   in-at l d (List·Memᴰ·head e) = (zero, omega arith, sym e)
   in-at l d (List·Memᴰ·tail {xs = t} p) = let r = in-at t d p in (suc (r .0), omega arith, r .2)
 
@@ -206,7 +202,7 @@ module _ {A : Type 0} where
       let h : r .0 < n = omega (arith, beginning-length s n) in
       (r .0, h, sym (beginning-at s n (s 0) (r .0) h) ∙ r .2)
 
-  pub distinct-at : (l : List A) (d : A) → Distinct l → (i j : ℕ) → i < length l → j < length l → getD l i d ≡ getD l j d → i ≡ j
+  distinct-at : (l : List A) (d : A) → Distinct l → (i j : ℕ) → i < length l → j < length l → getD l i d ≡ getD l j d → i ≡ j
   distinct-at l d none i j hi hj e = absurd (omega arith)
   distinct-at l d (more n s) zero zero hi hj e = refl
   distinct-at l d (more {l = t} n s) zero (suc j) hi hj e = absurd (n (Memᴰ·cast e (at-in t d j (omega arith))))
@@ -235,7 +231,7 @@ module _ {A : Type 0} where
     place x [] = zero
     place x (y ∷ l) = here (eq? x y) (place x l)
 
-    pub place-in : {x : A} (l : List A) (d : A) → x ∈ l → (place x l < length l) × (getD l (place x l) d ≡ x)
+    place-in : {x : A} (l : List A) (d : A) → x ∈ l → (place x l < length l) × (getD l (place x l) d ≡ x)
     unfolding place
     place-in [] d p = absurd (List·Memᴰ·not-nil p)
     place-in {x} (y ∷ l) d p = go (eq? x y) (λ q. place-in l d q)
@@ -244,16 +240,6 @@ module _ {A : Type 0} where
             → (here t (place x l) < suc (length l)) × (getD (y ∷ l) (here t (place x l)) d ≡ x)
         go (yes e) r = (omega arith, sym e)
         go (no n) r = let s = r (⊎-elim (λ e. absurd (n e)) (λ q. q) (List·Memᴰ·cases-cons p)) in (omega arith, s .1)
-
-    pub place-lt : (x : A) (l : List A) (d : A) → place x l < length l → getD l (place x l) d ≡ x
-    unfolding place
-    place-lt x [] d h = absurd (omega arith)
-    place-lt x (y ∷ l) d h = go (eq? x y) (λ q. place-lt x l d q) h
-      where
-        go : (t : Dec (x ≡ y)) → (place x l < length l → getD l (place x l) d ≡ x)
-            → here t (place x l) < suc (length l) → getD (y ∷ l) (here t (place x l)) d ≡ x
-        go (yes e) r k = sym e
-        go (no n) r k = r (omega arith)
 
     pub place-at : (l : List A) (d : A) → Distinct l → (i : ℕ) → i < length l → place (getD l i d) l ≡ i
     place-at l d s i h =

@@ -5,18 +5,14 @@
 --   least-divides      it divides every common one
 --   least-none         of no numbers it is 1
 --   least-more         with one more number it is the least positive multiple of the old one that this number divides
---   least-grows        with one more number it is no less
 --   least-more-times   least-more with the multiples of the old one counted
---   least-exists       positive numbers have one
 --   least-same         it is the same for sequences that agree
 use mathlib.Core.Path.{_≡_, sym, _∙_, ap, subst}
-use mathlib.Core.Logic.{_⊎_, inl, inr, _≢_, ⊎-elim}
-use Prim.Native.Nat.{ℕ, zero, suc, _+_, _-_, _*_, _/_, _%_, _≤_, _<_}
+use mathlib.Core.Logic.{_≢_, ⊎-elim}
+use Prim.Native.Nat.{ℕ, zero, suc, _+_, _*_, _/_, _%_, _≤_, _<_}
 use native.Mathlib.Omega.{arith}
-use native.Mathlib.Decide.{ℕ-discrete}
-use native.Mathlib.Nat.{zero-mul, mul-pos, mul-le-mul-right, mod-lt, mul-mod-left, mul-mod-right, div-add-mod'}
+use native.Mathlib.Nat.{zero-mul, mul-pos, mul-le-mul-right, mod-lt, mul-mod-left, div-add-mod'}
 use native.Mathlib.Nat.{dvd-trans, dvd-of-mod-eq-zero, mod-eq-zero-of-dvd, mod-mod-of-dvd}
-use native.Mathlib.Numerals.{add-one}
 use borrow.Author.Count.{below-more}
 use Rattle.laws.specs.Multiples.{Common, LeastCommon}
 use Rattle.laws.proofs.Tests.{lt-or-le}
@@ -26,7 +22,7 @@ use Rattle.laws.proofs.Tests.{lt-or-le}
 pub common-fewer : (f : ℕ → ℕ) (n m h : ℕ) → n ≤ m → Common f m h → Common f n h
 common-fewer f n m h l c i k = c i (omega arith)
 
-pub multiple-common : (f : ℕ → ℕ) (n h g : ℕ) → Common f n h → g % h ≡ 0 → Common f n g
+multiple-common : (f : ℕ → ℕ) (n h g : ℕ) → Common f n h → g % h ≡ 0 → Common f n g
 multiple-common f n h g c z i l =
     mod-eq-zero-of-dvd (f i) (dvd-trans (f i) (dvd-of-mod-eq-zero (f i) (c i l)) (dvd-of-mod-eq-zero h z))
 
@@ -50,16 +46,13 @@ module _ {f : ℕ → ℕ} where
   pub least-none : LeastCommon f 0 1
   least-none = record { positive = omega arith; common = λ i l. absurd (omega arith); least = λ g p c. p }
 
-  pub least-more : {n h k : ℕ} → LeastCommon f n h → 0 < k → k % h ≡ 0 → k % f n ≡ 0
+  least-more : {n h k : ℕ} → LeastCommon f n h → 0 < k → k % h ≡ 0 → k % f n ≡ 0
       → ((g : ℕ) → 0 < g → g % h ≡ 0 → g % f n ≡ 0 → k ≤ g) → LeastCommon f (n + 1) k
   least-more {n} {h} {k} a p z e l = record {
     positive = p;
     common = below-more (λ i. k % f i ≡ 0) n (multiple-common f n h k (a .common) z) e;
     least = λ g q c. l g q (least-divides a g (common-fewer f n (n + 1) g (omega arith) c)) (c n (omega arith));
   }
-
-  pub least-grows : {n h k : ℕ} → LeastCommon f n h → LeastCommon f (n + 1) k → h ≤ k
-  least-grows {n} {h} {k} a b = a .least k (b .positive) (common-fewer f n (n + 1) k (omega arith) (b .common))
 
 factor-positive : (s h : ℕ) → 0 < s * h → 0 < s
 factor-positive zero h p = absurd (omega (arith, zero-mul h))
@@ -81,33 +74,6 @@ least-more-times {f} {n} {h} a t p e l = least-more a (mul-pos p (a .positive)) 
 -- the first place of a property; a decided one that holds somewhere has it
 abbrev First : (ℕ → Type 0) → Type 0
 First P = (i : ℕ) × P i × ((j : ℕ) → j < i → ¬ P j)
-
-first-place : (P : ℕ → Type 0) → ((i : ℕ) → Dec (P i)) → (m : ℕ) → P m → First P
-first-place P P? m p = elim (search (suc m)) [ inl r ↦ r | inr n ↦ absurd (n m (omega arith) p) ]
-  where
-    go : (n : ℕ) → First P ⊎ ((j : ℕ) → j < n → ¬ P j) → Dec (P n) → First P ⊎ ((j : ℕ) → j < n + 1 → ¬ P j)
-    go n (inl r) d = inl r
-    go n (inr h) (yes q) = inl (n, q, h)
-    go n (inr h) (no d) = inr (below-more (λ j. ¬ P j) n h d)
-
-    search : (n : ℕ) → First P ⊎ ((j : ℕ) → j < n → ¬ P j)
-    search zero = inr (λ j l. absurd (omega arith))
-    search (suc n) = rw add-one at (go n (search n) (P? n))
-
--- the places below t, counted from 1
-from-one : (P : ℕ → Type 0) (t : ℕ) → ((j : ℕ) → j < t → ¬ P (suc j)) → (s : ℕ) → 0 < s → s < suc t → ¬ P s
-from-one P t h zero p l = absurd (omega arith)
-from-one P t h (suc s) p l = h s (omega arith)
-
-next-exists : {f : ℕ → ℕ} {n h : ℕ} → 0 < f n → LeastCommon f n h → (k : ℕ) × LeastCommon f (n + 1) k
-next-exists {f} {n} {h} p a =
-    let e : suc (f n - 1) ≡ f n = omega arith in
-    let r = first-place (λ t. suc t * h % f n ≡ 0) (λ t. ℕ-discrete (suc t * h % f n) 0) (f n - 1) (rw e (mul-mod-right (f n) h)) in
-    (suc (r .0) * h, least-more-times a (suc (r .0)) (omega arith) (r .1) (from-one (λ t. t * h % f n ≡ 0) (r .0) (r .2)))
-
-pub least-exists : (f : ℕ → ℕ) (n : ℕ) → ((i : ℕ) → i < n → 0 < f i) → (h : ℕ) × LeastCommon f n h
-least-exists f zero p = (1, least-none)
-least-exists f (suc n) p = rw add-one at (next-exists (p n (omega arith)) (least-exists f n (λ i l. p i (omega arith)) .1))
 
 pub least-same : (f g : ℕ → ℕ) {n h : ℕ} → ((i : ℕ) → i < n → f i ≡ g i) → LeastCommon f n h → LeastCommon g n h
 least-same f g {n} {h} e a = record {

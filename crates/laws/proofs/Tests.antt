@@ -34,7 +34,7 @@ true-of false t = absurd t
 pub T-of : (b : Bool) → b ≡ true → T b
 T-of b e = subst T (sym e) tt
 
-pub false-of : (b : Bool) → T (not b) → b ≡ false
+false-of : (b : Bool) → T (not b) → b ≡ false
 false-of true t = absurd t
 false-of false t = refl
 

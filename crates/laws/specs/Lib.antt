@@ -1,5 +1,6 @@
 pub mod Bits
 pub mod Tests
+pub mod Loops
 pub mod Multiples
 pub mod Lists
 pub mod Repeats

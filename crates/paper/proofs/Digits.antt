@@ -20,7 +20,7 @@ use lib.ListN.{length}
 use Rattle.laws.specs.Lists.{_∈_}
 use Rattle.laws.proofs.Tests.{lt-or-le, pick-lt, pick-ge}
 use Rattle.paper.specs.Text.{digit, twoDigits}
-unfoldable pub use Rattle.paper.specs.Reading.{value, byte}
+use Rattle.paper.specs.Reading.{value, byte}
 
 -- ---- One digit
 

@@ -33,8 +33,7 @@ use Rattle.laws.specs.Lists.{_∈_, row, beginning}
 use Rattle.laws.proofs.Tests.{lt-or-le}
 use Rattle.laws.proofs.Lists.{at-in, beginning-length, in-beginning-at}
 use Rattle.paper.specs.Text.{digit, twoDigits, line, ending}
-unfoldable pub use Rattle.paper.specs.Reading.{byteAt}
-pub use Rattle.paper.specs.Reading.{Line, Ending}
+use Rattle.paper.specs.Reading.{byteAt, Line, Ending}
 use Rattle.paper.proofs.Digits.{digit-least, value-under, byte-second-bad, byte-digits, digits-byte}
 use Rattle.paper.proofs.Digits.{twoDigits-length, twoDigits-one, twoDigits-open}
 

@@ -28,15 +28,13 @@ use Rattle.paper.specs.declared.Job.{Job}
 use Rattle.paper.specs.declared.Section.{Section}
 use Rattle.paper.specs.declared.Link.{Link}
 use Rattle.paper.specs.Room.{job, section, link, noJob, noSection, noLink}
-use Rattle.paper.specs.Text.{line, engineFrame, jobFrame, sectionFrame, linkFrame, frames, ending, render, pad}
-use Rattle.paper.specs.Text.{GoodText, Begins, FirstBadLine, Read}
-use Rattle.paper.proofs.Lines.{Bytes, line-length, ending-line, byteAt, Line, line-within, frameAt, frameAt-length, frameAt-kind, frameAt-bytes}
-use Rattle.paper.proofs.Lines.{line-there, there-kind, there-line, Ending, ending-there, there-ending}
+use Rattle.paper.specs.Text.{line, engineFrame, jobFrame, sectionFrame, linkFrame, frames, ending, render, pad, GoodText, Begins, FirstBadLine, Read}
+use Rattle.paper.specs.Reading.{byteAt, Line, Ending, FirstLine, lineAfter, SoFar, Follows, job-follows, section-follows, link-follows, end-follows}
+use Rattle.paper.proofs.Lines.{Bytes, line-length, ending-line, line-within, frameAt, frameAt-length, frameAt-kind, frameAt-bytes}
+use Rattle.paper.proofs.Lines.{line-there, there-kind, there-line, ending-there, there-ending}
 use Rattle.paper.proofs.Texts.{EachBytes, text-more, allFrames, allFrames-bytes, all-length, render-is, render-parts, frames-length, lines-length}
 use Rattle.paper.proofs.BadLines.{frames-begin, begins-zero, begins-fewer, begins-next, good-whole}
 use Rattle.paper.proofs.Frames.{ff-no-frame, frames-then}
-unfoldable pub use Rattle.paper.specs.Reading.{FirstLine, lineAfter}
-pub use Rattle.paper.specs.Reading.{SoFar, Follows, job-follows, section-follows, link-follows, end-follows}
 use Rattle.paper.proofs.Grammar.{Next, a-job, a-section, a-link, the-end, next-frame, end-last, pad-length, pad-set}
 use Rattle.paper.proofs.Grammar.{withEngines, withJob, withSection, withLink, frames-engines, frames-job, frames-section, frames-link}
 

@@ -1,7 +1,8 @@
 -- Laws for the loops of the check: what a turn adds, and what the end says.
 --   holds, fails                    a verdict, from a test of its negation
 --   least-found, least-none         a search for the least bad entry ends at it, or finds none
---   first-many, first-of            so does one for more than most entries, and then for the least bad one
+--   first-found, first-none         so does one where there may be too many of them,
+--   first-many                      and one where there are
 --   multiple-next                   the least common multiple with one more number
 --   within-all, within-limits       where all jobs are within 4,096, H is their multiple; within the limits they are
 use Prim.Native.Nat.{ℕ, _+_, _≤_, _<_, _%_}
@@ -10,7 +11,9 @@ use mathlib.Core.Path.{_≡_, refl, subst}
 use mathlib.Core.Logic.{⊎-elim}
 use mathlib.Core.Bool.{Bool, true, false, not}
 use borrow.Author.Tests.{not-false}
+use Rattle.laws.specs.Loops.{Through}
 use Rattle.laws.specs.Multiples.{LeastCommon}
+use Rattle.laws.proofs.Loops.{through-all}
 use Rattle.laws.proofs.Tests.{T-of, lt-or-le}
 use Rattle.laws.proofs.Multiples.{least-more-times}
 use Rattle.paper.specs.declared.Room.{Room}
@@ -28,20 +31,25 @@ module _ {fits : Bool} {P : Type 0} (v : Verdict fits P) where
   pub fails : not fits ≡ true → ¬ P
   fails e = v .no (T-of (not fits) e)
 
-module _ {Fine : ℕ → Type 0} {n i : ℕ} (earlier : (k : ℕ) → k < i → Fine k) where
+module _ {Fine : ℕ → Type 0} {n i : ℕ} (t : Through Fine n i) where
   pub least-found : i < n → ¬ Fine i → Search (LeastBad Fine n) ((k : ℕ) → k < n → Fine k) n i
-  least-found l b = record { found = λ _. record { below = l; bad = b; earlier = earlier }; none = λ g. absurd (omega arith) }
+  least-found l b = record { found = λ _. record { below = l; bad = b; earlier = t .each }; none = λ g. absurd (omega arith) }
 
   pub least-none : n ≤ i → Search (LeastBad Fine n) ((k : ℕ) → k < n → Fine k) n i
-  least-none g = record { found = λ l. absurd (omega arith); none = λ _ k l. earlier k (omega arith) }
+  least-none g = record { found = λ l. absurd (omega arith); none = λ _. through-all t g }
 
-module _ {Fine : ℕ → Type 0} {n most : ℕ} where
-  pub first-many : most < n → Search (FirstBad Fine n most) ((n ≤ most) × ((k : ℕ) → k < n → Fine k)) n most
-  first-many l = record { found = λ _. many l refl; none = λ g. absurd (omega arith) }
+  module _ {most : ℕ} (few : n ≤ most) where
+    first-of : Search (LeastBad Fine n) ((k : ℕ) → k < n → Fine k) n i → Search (FirstBad Fine n most) ((n ≤ most) × ((k : ℕ) → k < n → Fine k)) n i
+    first-of s = record { found = λ l. one few (s .found l); none = λ e. (few, s .none e) }
 
-  pub first-of : {i : ℕ} → n ≤ most → Search (LeastBad Fine n) ((k : ℕ) → k < n → Fine k) n i
-      → Search (FirstBad Fine n most) ((n ≤ most) × ((k : ℕ) → k < n → Fine k)) n i
-  first-of g s = record { found = λ l. one g (s .found l); none = λ e. (g, s .none e) }
+    pub first-found : i < n → ¬ Fine i → Search (FirstBad Fine n most) ((n ≤ most) × ((k : ℕ) → k < n → Fine k)) n i
+    first-found l b = first-of (least-found l b)
+
+    pub first-none : n ≤ i → Search (FirstBad Fine n most) ((n ≤ most) × ((k : ℕ) → k < n → Fine k)) n i
+    first-none g = first-of (least-none g)
+
+pub first-many : {Fine : ℕ → Type 0} {n most : ℕ} → most < n → Search (FirstBad Fine n most) ((n ≤ most) × ((k : ℕ) → k < n → Fine k)) n most
+first-many l = record { found = λ _. many l refl; none = λ g. absurd (omega arith) }
 
 -- ---- H
 

@@ -3,7 +3,7 @@ use Prim.Native.Nat.{_-_}
 use mathlib.Core.Path.{sym, _≡_}
 use borrow.Author.Needs.{needs}
 use lib.Seq.{length-take-le}
-use Rattle.paper.proofs.Reader.{lineAfter}
+use Rattle.paper.specs.Reading.{lineAfter}
 use Rattle.text.proofs.Writer.{LinesTo, lines-start, line-fits, lines-turn, ending-fits, lines-end}
 use Rattle.text.proofs.put_lines.Statement.{statement}
 use Rattle.text.proofs.put_lines.Tie as tie

@@ -4,7 +4,8 @@ use native.Mathlib.Omega.{arith}
 use mathlib.Core.Path.{refl}
 use borrow.Author.Needs.{needs}
 use lib.ListN.{length}
-use Rattle.paper.proofs.Reader.{SoFar, bad-first}
+use Rattle.paper.specs.Reading.{SoFar}
+use Rattle.paper.proofs.Reader.{bad-first}
 use Rattle.text.proofs.Reader.{read-bad, first-missing, first-so-far, turn-missing, turn-so-far, turn-further}
 use Rattle.text.proofs.read.Statement.{statement}
 use Rattle.text.proofs.read.Tie as tie
