@@ -5,7 +5,6 @@
 --   value-under, value-low, value-between, value-high, value-over
 --                                     it by ranges: below 0, 0 to 9, between 9 and a, a to f, above f
 --   value-digit, digit-value          the digits are exactly what has a value below 16
---   byte                              the byte that two digits stand for; 256 for what are not two digits
 --   byte-first-bad, byte-second-bad, byte-yes
 --                                     it by the values
 --   byte-digits, digits-byte          what is read as a byte is its two digits, and they are read as it

@@ -2,7 +2,7 @@
 --   row-one, row-equal            equal rows have the same entries
 --   frames-room, used-frames      rooms with the same used entries are those with the same frames
 --   used-carried, used-render     they are carried together, and have the same text
---   pad, pad-same, pad-at         n entries and then zeros
+--   pad-same, pad-at              n entries and then zeros
 --   read-one                      a text gives one room
 --   padded, padded-same           a room's used entries and then zeros
 --   padded-reads                  which is what its text gives

@@ -8,15 +8,13 @@
 --   line-open                         no 0a before the last byte of a line
 --   line-code                         equal texts that begin with lines have one frame there, and the same after it
 --   ending-line                       `ff` is the line of the frame ff
---   byteAt, byteAt-beyond             the byte whose digits stand at a place; 256 where no two digits stand, as beyond the end
---   Line                              a line of n bytes stands at a place
+--   byteAt-beyond                     beyond the end no two digits stand
 --   line-at-none, line-at-more        lines at a place, from the front
 --   line-within                       a line stands within the text
 --   frameAt, frameAt-length           the frame of n bytes at a place
 --   frameAt-kind                      its first byte, and the others
 --   frameAt-bytes, line-there         where a line stands, that frame is one of bytes, and the text goes on with its line
 --   there-line, there-kind            a line that the text goes on with stands there, and the first byte of its frame
---   Ending                            the line `ff` stands at a place
 --   ending-there, there-ending        the text goes on with `ff` exactly where it stands
 --   ending-within                     which is within the text
 use mathlib.Core.Path.{_≡_, refl, sym, ap, _∙_, subst}

@@ -1,11 +1,8 @@
 -- Reading a room text line by line (01, "Room text"). What was read before a place is a room, and its counts and the bytes at the place say
 -- how it goes on: by one entry more, by the end, or not at all, and then that line is the first bad one.
---   SoFar                                    the text before a place is the lines of a room whose unused entries are zeros
 --   jobAt, sectionAt, linkAt                 the entry whose line stands at a place
---   FirstLine, so-far-first                  the first line stands at the start
+--   so-far-first                             the first line stands at the start
 --   so-far-job, so-far-section, so-far-link  one more line
---   Follows                                  a line that may follow stands at the place
---   lineAfter                                its number
 --   begins-first, so-far-begins              the first line of good texts; the lines of a room begin a good text
 --   begins-follows                           where one more line begins a good text too, it may follow
 --   read-end                                 `ff` and nothing after it: the room is read
