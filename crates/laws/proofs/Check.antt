@@ -20,7 +20,7 @@ use Rattle.laws.specs.Certificate.{Reached, Certificate}
 use Rattle.laws.specs.Places.{Mark, Places}
 use Rattle.laws.specs.Forever.{Plan}
 use Rattle.laws.specs.Trails.{trailMasks, turns?}
-use Rattle.laws.specs.Check.{Row, rowAt, find, onward?, reached?, leads?, steps?, row?, good?}
+use Rattle.laws.specs.Check.{Found, rowAt, find, onward?, reached?, leads?, steps?, row?, good?}
 use Rattle.laws.proofs.Tests.{T?, T-and, T-asks, T-all}
 use Rattle.laws.proofs.Walks.{bound-step}
 use Rattle.laws.proofs.Certificate.{reached-start, reached-step}
@@ -32,7 +32,7 @@ module _ {C : Type 0} (same : C → C → Bool) (same-eq : (c d : C) → T (same
   same-discrete same-refl c d = elim (T? (same c d)) [ yes t ↦ yes (same-eq c d t) | no n ↦ no (λ e. n (subst (λ x. T (same c x)) e (same-refl c))) ]
 
   -- what is found within the rows stands there
-  find-at : (c : C) (rows : List (Row C)) (r₀ : Row C) → find same c rows < length rows → getD rows (find same c rows) r₀ .config ≡ c
+  find-at : (c : C) (rows : List (Found C)) (r₀ : Found C) → find same c rows < length rows → getD rows (find same c rows) r₀ .config ≡ c
   unfolding find
   find-at c [] r₀ h = absurd (omega arith)
   find-at c (r ∷ rows) r₀ h = head (same c (r .config)) (same-eq c (r .config)) (λ l. find-at c rows r₀ l) h
@@ -44,18 +44,18 @@ module _ {C : Type 0} (same : C → C → Bool) (same-eq : (c d : C) → T (same
 
 -- ---- What the test says of a step
 
-onward-living : {C : Type 0} (r q : Row C) (m : ℕ) → T (onward? r q m) → T (r .living) → r .mask < m → ¬ T (q .living)
+onward-living : {C : Type 0} (r q : Found C) (m : ℕ) → T (onward? r q m) → T (r .living) → r .mask < m → ¬ T (q .living)
 unfolding onward?
 onward-living r q m t v h = T-not (q .living) (T-asks _ _ (T-asks _ _ (T-and _ _ t .0) v) (lt→ltb _ _ h))
 
-onward-dead : {C : Type 0} (r q : Row C) (m : ℕ) → T (onward? r q m) → ¬ T (r .living) → (¬ T (q .living)) × (q .rank < r .rank)
+onward-dead : {C : Type 0} (r q : Found C) (m : ℕ) → T (onward? r q m) → ¬ T (r .living) → (¬ T (q .living)) × (q .rank < r .rank)
 unfolding onward?
 onward-dead r q m t n = let p = T-and _ _ (T-asks _ _ (T-and _ _ t .1) (not-T (r .living) n)) in (T-not (q .living) (p .0), ltb→lt _ _ (p .1))
 
 -- ---- Rows that pass
 
 module _ {C : Type 0} (same : C → C → Bool) (same-eq : (c d : C) → T (same c d) → c ≡ d) (test : C → ℕ → Bool) (step : C → ℕ → C) (start : C)
-    (B : ℕ) (below : (c : C) (m : ℕ) → T (test c m) → m < B) (rows : List (Row C)) (good : T (good? same test step start B rows)) where
+    (B : ℕ) (below : (c : C) (m : ℕ) → T (test c m) → m < B) (rows : List (Found C)) (good : T (good? same test step start B rows)) where
   some : 0 < length rows
   unfolding good?
   some = ltb→lt _ _ (T-and _ _ good .0)

@@ -12,7 +12,7 @@ use lib.Dec.{T, leb→le, ltb→lt, T-not}
 use lib.ListN.{take}
 use Rattle.laws.specs.Walks.{after, Walk, stop, go, Alive}
 use Rattle.laws.specs.Certificate.{Centre, Outside}
-use Rattle.laws.specs.Check.{Row, rowAt, find, good?}
+use Rattle.laws.specs.Check.{Found, rowAt, find, good?}
 use Rattle.laws.specs.Judge.{walk?, found?, living?, inside?, lost?, outside?}
 use Rattle.laws.proofs.Tests.{and-T, T-and, T-asks, T-all}
 use Rattle.laws.proofs.Check.{row-alive}
@@ -29,7 +29,7 @@ module _ {C : Type 0} (test : C → ℕ → Bool) (step : C → ℕ → C) where
   T-walk c (m ∷ l) t = let p = T-and _ _ t in go (p .0) (T-walk (step c m) l (p .1))
 
 module _ {C : Type 0} (same : C → C → Bool) (same-eq : (c d : C) → T (same c d) → c ≡ d) (test : C → ℕ → Bool) (step : C → ℕ → C) (start : C)
-    (B : ℕ) (below : (c : C) (m : ℕ) → T (test c m) → m < B) (rows : List (Row C)) (good : T (good? same test step start B rows))
+    (B : ℕ) (below : (c : C) (m : ℕ) → T (test c m) → m < B) (rows : List (Found C)) (good : T (good? same test step start B rows))
     (same-refl : (c : C) → T (same c c)) where
   living-alive : (c : C) → T (found? same start rows c) → T (living? same start rows c) ↔ Alive test step c
   unfolding found? living?

@@ -12,20 +12,20 @@ use lib.Dec.{ltb, leb}
 use lib.ListN.{length, take}
 use Rattle.laws.specs.Tests.{both, asks, all}
 use Rattle.laws.specs.Walks.{after}
-use Rattle.laws.specs.Check.{Row, rowAt, find}
+use Rattle.laws.specs.Check.{Found, rowAt, find}
 
 unfoldable pub walk? : {C : Type 0} → (C → ℕ → Bool) → (C → ℕ → C) → C → List ℕ → Bool
 walk? test step c [] = true
 walk? test step c (m ∷ l) = both (test c m) (walk? test step (step c m) l)
 
-module _ {C : Type 0} (same : C → C → Bool) (start : C) (rows : List (Row C)) where
+module _ {C : Type 0} (same : C → C → Bool) (start : C) (rows : List (Found C)) where
   unfoldable pub found? : C → Bool
   found? c = let j = find same c rows in both (ltb j (length rows)) (same (rowAt start rows j .config) c)
 
   unfoldable pub living? : C → Bool
   living? c = rowAt start rows (find same c rows) .living
 
-module _ {C : Type 0} (same : C → C → Bool) (test : C → ℕ → Bool) (step : C → ℕ → C) (start : C) (rows : List (Row C)) where
+module _ {C : Type 0} (same : C → C → Bool) (test : C → ℕ → Bool) (step : C → ℕ → C) (start : C) (rows : List (Found C)) where
   unfoldable pub inside? : List ℕ → Bool
   inside? l = let c = after step start l in both (walk? test step start l) (both (found? same start rows c) (living? same start rows c))
 

@@ -30,7 +30,7 @@ use Rattle.paper.specs.Centre.{Centre, Feasible, Outside}
 use Rattle.paper.specs.Plan.{unrolled}
 use Rattle.paper.specs.Reply.{undecidedNumbers, plannedNumbers, judgedNumbers, PlanIs, zeros, written, Decided, PlanReply, JudgeReply}
 use Rattle.paper.specs.Languages.{DependentValid}
-use Rattle.paper.specs.Means.{HasSchedule, GoesOn, Behaves, Decides, PlanFits, Singled, PlanMeans, JudgeMeans}
+use Rattle.paper.specs.Means.{HasSchedule, GoesOn, Behaves, IsDecided, PlanFits, Singled, PlanMeans, JudgeMeans}
 use Rattle.laws.proofs.Tests.{lt-or-le}
 use Rattle.paper.proofs.Uniques.{plan-one, outside-not-centre}
 use Rattle.paper.proofs.Certificates.{feasible?, past-judged}
@@ -58,7 +58,7 @@ undecidable undecided.Room = (lit≤ tt, lit≤ tt)
 -- ---- Planning
 
 module _ (room : Room) (table₀ plan₀ : List ℕ) where
-  plan-decides : (r : Planned) {table plan : List ℕ} → PlanReply room table₀ plan₀ r table plan → Decides room table₀ ⊎ Undecidable (plannedNumbers r)
+  plan-decides : (r : Planned) {table plan : List ℕ} → PlanReply room table₀ plan₀ r table plan → IsDecided room table₀ ⊎ Undecidable (plannedNumbers r)
   plan-decides (planned.Good n a c) x = inl (n, x .says .decided)
   plan-decides (planned.None n) x = inl (n, x .says .0 .decided)
   plan-decides (planned.Undecided u) x = inr (undecidable u)
@@ -116,7 +116,7 @@ module _ (room : Room) (table₀ plan₀ : List ℕ) where
       → PlanReply room table₀ plan₀ r table plan → PlanMeans Possible room table₀ plan₀ (plannedNumbers r) plan
   plan-means-by {Possible} same r {table} {plan} x = ⊎-elim (λ d. decides d) undecided (plan-decides r x)
     where
-      decides : Decides room table₀ → PlanMeans Possible room table₀ plan₀ (plannedNumbers r) plan
+      decides : IsDecided room table₀ → PlanMeans Possible room table₀ plan₀ (plannedNumbers r) plan
       decides d = by-case (plan-case x (d .1)) (same (d .1 .limits))
         where
           by-case : PlanCase (plannedNumbers r) plan → Feasible room ↔ Possible → PlanMeans Possible room table₀ plan₀ (plannedNumbers r) plan
@@ -147,7 +147,7 @@ module _ (room : Room) (table₀ plan₀ : List ℕ) where
         schedule = λ c. absurd (omega arith);
       }
         where
-          never : ¬ Decides room table₀
+          never : ¬ IsDecided room table₀
           never d = elim (plan-case x (d .1)) [ none f e ↦ omega arith | good f g e s ↦ omega arith | short f g e ↦ omega arith ]
 
   pub plan-means : (r : Planned) (table plan : List ℕ) → PlanReply room table₀ plan₀ r table plan
@@ -161,7 +161,7 @@ module _ (room : Room) (table₀ plan₀ : List ℕ) where
 -- ---- Judging
 
 module _ (room : Room) (past table₀ : List ℕ) where
-  judge-decides : (r : Judged) {table : List ℕ} → JudgeReply room past table₀ r table → Decides room table₀ ⊎ Undecidable (judgedNumbers r)
+  judge-decides : (r : Judged) {table : List ℕ} → JudgeReply room past table₀ r table → IsDecided room table₀ ⊎ Undecidable (judgedNumbers r)
   judge-decides (judged.Good n) x = inl (n, x .says .decided)
   judge-decides (judged.Undecided u) x = inr (undecidable u)
   judge-decides (judged.Out n i) x = inl (n, x .says .decided)
@@ -192,7 +192,7 @@ module _ (room : Room) (past table₀ : List ℕ) where
       → JudgeReply room past table₀ r table → JudgeMeans Possible room past table₀ (judgedNumbers r)
   judge-means-by {Possible} same r x = ⊎-elim (λ d. decides d) undecided (judge-decides r x)
     where
-      decides : Decides room table₀ → JudgeMeans Possible room past table₀ (judgedNumbers r)
+      decides : IsDecided room table₀ → JudgeMeans Possible room past table₀ (judgedNumbers r)
       decides d = by-case (judge-case x (d .1)) (same (d .1 .limits))
         where
           by-case : JudgeCase (judgedNumbers r) → ((l : List ℕ) → Centre room l ↔ Possible l) → JudgeMeans Possible room past table₀ (judgedNumbers r)
@@ -216,7 +216,7 @@ module _ (room : Room) (past table₀ : List ℕ) where
         place = λ c. absurd (omega arith);
       }
         where
-          never : ¬ Decides room table₀
+          never : ¬ IsDecided room table₀
           never d = elim (judge-case x (d .1)) [ accepted c e ↦ omega arith | out o e ↦ omega arith ]
 
   pub judge-means : (r : Judged) (table : List ℕ) → JudgeReply room past table₀ r table → JudgeMeans (GoesOn room) room past table₀ (judgedNumbers r)

@@ -29,7 +29,7 @@ use Rattle.paper.specs.Reply.{plannedNumbers, judgedNumbers, most, W, Pl
 use Rattle.paper.specs.Rows.{Row, planning, judging, Meets}
 use Rattle.laws.specs.Lists.{_∈_}
 use Rattle.laws.specs.Tests.{both}
-use Rattle.laws.specs.Check.{Row as Found, rowAt, good?}
+use Rattle.laws.specs.Check.{Found, rowAt, good?}
 use Rattle.laws.specs.Trails.{trailMasks, turns?}
 use Rattle.laws.specs.Judge.{inside?, lost?, outside?}
 use Rattle.laws.proofs.Tests.{and-T, T-and}

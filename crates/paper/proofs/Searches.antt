@@ -16,7 +16,7 @@ use mathlib.Core.Bool.{Bool, true, false, cond}
 use mathlib.Core.List.{List, [], _∷_, _++_, map}
 use lib.Dec.{T, ltb, eqb}
 use lib.ListN.{length}
-use Rattle.laws.specs.Check.{Row, rowAt, find}
+use Rattle.laws.specs.Check.{Found, rowAt, find}
 
 -- ---- A number
 
@@ -36,21 +36,21 @@ least-first f (suc n) k i h l = head (f k) refl (λ g. least-first f n (suc k) i
 -- ---- A certificate
 
 module _ {C : Type 0} (same : C → C → Bool) (test : C → ℕ → Bool) (step : C → ℕ → C) (start : C) (B : ℕ) where
-  unfoldable pub add : ℕ → ℕ → C → List (Row C) → List (Row C)
+  unfoldable pub add : ℕ → ℕ → C → List (Found C) → List (Found C)
   add j m c rows = elim (ltb (find same c rows) (length rows)) [
     | true ↦ rows
     | false ↦ rows ++ (record { config = c; living = true; mask = 0; leads = 0; rank = 0; from = j; by = m } ∷ [])
   ]
 
-  unfoldable pub visit : ℕ → C → ℕ → List (Row C) → List (Row C)
+  unfoldable pub visit : ℕ → C → ℕ → List (Found C) → List (Found C)
   visit j c zero rows = rows
   visit j c (suc m) rows = let found = visit j c m rows in elim (test c m) [ true ↦ add j m (step c m) found | false ↦ found ]
 
-  unfoldable pub explore : ℕ → ℕ → List (Row C) → List (Row C)
+  unfoldable pub explore : ℕ → ℕ → List (Found C) → List (Found C)
   explore zero j rows = rows
   explore (suc n) j rows = elim (ltb j (length rows)) [ true ↦ explore n (suc j) (visit j (rowAt start rows j .config) B rows) | false ↦ rows ]
 
-  unfoldable pub lead : List (Row C) → ℕ → Row C → ℕ → Row C
+  unfoldable pub lead : List (Found C) → ℕ → Found C → ℕ → Found C
   lead rows k r zero = record { config = r .config; living = false; mask = 0; leads = 0; rank = k; from = r .from; by = r .by }
   lead rows k r (suc m) = elim (test (r .config) m) [
     | true ↦ (
@@ -62,15 +62,15 @@ module _ {C : Type 0} (same : C → C → Bool) (test : C → ℕ → Bool) (ste
     | false ↦ lead rows k r m
   ]
 
-  unfoldable pub survivors : List (Row C) → ℕ
+  unfoldable pub survivors : List (Found C) → ℕ
   survivors [] = 0
   survivors (r ∷ rows) = cond (r .living) 1 0 + survivors rows
 
-  unfoldable pub mark : ℕ → ℕ → List (Row C) → List (Row C)
+  unfoldable pub mark : ℕ → ℕ → List (Found C) → List (Found C)
   mark zero k rows = rows
   mark (suc n) k rows =
-      let marked : List (Row C) = map (λ r. elim (r .living) [ true ↦ lead rows k r B | false ↦ r ]) rows in
+      let marked : List (Found C) = map (λ r. elim (r .living) [ true ↦ lead rows k r B | false ↦ r ]) rows in
       elim (eqb (survivors marked) (survivors rows)) [ true ↦ marked | false ↦ mark n (suc k) marked ]
 
-  unfoldable pub search : ℕ → List (Row C)
+  unfoldable pub search : ℕ → List (Found C)
   search n = mark n 0 (explore n 0 (add 0 0 start []))

@@ -2,7 +2,7 @@
 --   HasSchedule    an endless schedule exists
 --   GoesOn         a past goes on as a prefix and a cycle, repeated for ever
 --   Behaves        document 004 has a time-valid behaviour of the room
---   Decides        the room is within the limits, and the table is not too long and holds all its configurations
+--   IsDecided        the room is within the limits, and the table is not too long and holds all its configurations
 --   PlanFits       the room's plan fits into a buffer
 --   Singled        the endless schedule that the paper singles out
 --   PlanMeans      planning: each code is given exactly when, and what stands in the buffer
@@ -34,8 +34,8 @@ Behaves room = (l : List ℕ) × DependentValid room l
 -- ---- Planning
 
 -- none of 3 to 8 applies, nor TABLE, nor ROOM
-abbrev pub Decides : Room → List ℕ → Type 0
-Decides room table₀ = (n : ℕ) × Decided room table₀ n
+abbrev pub IsDecided : Room → List ℕ → Type 0
+IsDecided room table₀ = (n : ℕ) × Decided room table₀ n
 
 abbrev pub PlanFits : Room → List ℕ → Type 0
 PlanFits room plan₀ = (masks : List ℕ) × (a : ℕ) × PlanIs room masks a × (length masks ≤ length plan₀)
@@ -49,9 +49,9 @@ pub record Singled (room : Room) (s : ℕ → ℕ) : Type 0 where
 -- plan fits, SHORT exactly if it is possible and the plan does not fit, NONE exactly if it is not possible. On GOOD the masks in the buffer, the
 -- cycle repeated for ever, are the endless schedule that the paper singles out.
 pub record PlanMeans (Possible : Type 0) (room : Room) (table₀ plan₀ : List ℕ) (N : Numbers) (plan : List ℕ) : Type 0 where
-  pub good : (N .code ≡ 0) ↔ (Decides room table₀ × Possible × PlanFits room plan₀)
-  pub none : (N .code ≡ 1) ↔ (Decides room table₀ × (¬ Possible))
-  pub short : (N .code ≡ 11) ↔ (Decides room table₀ × Possible × (¬ PlanFits room plan₀))
+  pub good : (N .code ≡ 0) ↔ (IsDecided room table₀ × Possible × PlanFits room plan₀)
+  pub none : (N .code ≡ 1) ↔ (IsDecided room table₀ × (¬ Possible))
+  pub short : (N .code ≡ 11) ↔ (IsDecided room table₀ × Possible × (¬ PlanFits room plan₀))
   pub schedule : N .code ≡ 0 → Singled room (unrolled (take (N .prefix + N .cycle) plan) (N .prefix))
 
 -- ---- Judging
@@ -65,6 +65,6 @@ pub record ShortestLost (Possible : List ℕ → Type 0) (past : List ℕ) (n : 
 -- Possible is that a past can be continued without end, said in either way above. Of a decided room judging says GOOD exactly if the past is
 -- possible, and OUT exactly if it is not, with the length of its shortest lost beginning.
 pub record JudgeMeans (Possible : List ℕ → Type 0) (room : Room) (past table₀ : List ℕ) (N : Numbers) : Type 0 where
-  pub good : (N .code ≡ 0) ↔ (Decides room table₀ × Possible past)
-  pub out : (N .code ≡ 12) ↔ (Decides room table₀ × (¬ Possible past))
+  pub good : (N .code ≡ 0) ↔ (IsDecided room table₀ × Possible past)
+  pub out : (N .code ≡ 12) ↔ (IsDecided room table₀ × (¬ Possible past))
   pub place : N .code ≡ 12 → ShortestLost Possible past (N .place)

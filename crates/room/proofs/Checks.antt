@@ -20,7 +20,7 @@ use Rattle.paper.specs.declared.Room.{Room}
 use Rattle.paper.specs.Room.{Multiple, Limits}
 use Rattle.paper.specs.Reply.{LeastBad, FirstBad, many, one}
 use Rattle.paper.proofs.Uniques.{passes-long}
-use Rattle.room.specs.Checks.{Verdict, Search, LeastMultiple, Within}
+use Rattle.room.specs.Checks.{Verdict, Search, LeastMultiple, JobsWithin}
 
 -- ---- Bad entries
 
@@ -57,7 +57,7 @@ pub multiple-next : {f : ℕ → ℕ} {n h m : ℕ} → LeastCommon f n h → Le
 multiple-next {f} {n} {h} {m} a l =
     rw (l .same) (least-more-times a (l .times) (l .some) (subst (λ (x : ℕ). x % f n ≡ 0) (l .same) (l .divided)) (l .least))
 
-module _ {room : Room} {i h : ℕ} (w : Within room i h) where
+module _ {room : Room} {i h : ℕ} (w : JobsWithin room i h) where
   pub within-all : room .jobs ≤ i → Multiple room (room .jobs) h
   within-all l = let e : i ≡ room .jobs = omega arith in rw e at (w .multiple)
 

@@ -5,7 +5,7 @@
 --   Search                        a search through the entries of a room for a fault
 --   JobSearch, SectionSearch, LinkSearch   for the refusals 5 to 7
 --   LeastMultiple                 the least positive multiple of h that t divides
---   Within                        as many jobs as have a multiple of at most 4,096
+--   JobsWithin                        as many jobs as have a multiple of at most 4,096
 use Prim.Native.Nat.{ℕ, _*_, _≤_, _<_, _%_}
 use mathlib.Core.Path.{_≡_}
 use mathlib.Core.Logic.{_≢_}
@@ -66,7 +66,7 @@ pub record LeastMultiple (h t m : ℕ) : Type 0 where
   pub least : (s : ℕ) → 0 < s → s < times → s * h % t ≢ 0
 
 -- the first i jobs have the multiple h, at most 4,096; with the next one, if there is one, it passes that
-pub record Within (room : Room) (i h : ℕ) : Type 0 where
+pub record JobsWithin (room : Room) (i h : ℕ) : Type 0 where
   pub within : i ≤ room .jobs
   pub multiple : Multiple room i h
   pub short : h ≤ 4096

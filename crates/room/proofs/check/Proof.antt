@@ -3,7 +3,7 @@
 use borrow.Author.Needs.{needs}
 use Rattle.paper.specs.declared.Room.{Room}
 use Rattle.paper.specs.Reply.{ToJobs, ToJob, ToSection, ToLink, ToLong}
-use Rattle.room.specs.Checks.{Within}
+use Rattle.room.specs.Checks.{JobsWithin}
 use Rattle.room.proofs.Checks.{holds, fails, within-all}
 use Rattle.room.proofs.check.Statement.{statement}
 use Rattle.room.proofs.check.Tie as tie
@@ -40,7 +40,7 @@ room5 c = room4 (c .before .before .before)
 to-long : (c : tie.Else5) → ToLong (room5 c)
 to-long c = (to-link (c .before .before .before), c .before .before .first-bad-link .ensures .none (c .if5 .left))
 
-within : (c : tie.After-common-multiple) → Within (room5 (c .before)) (c .common-multiple .result .jobs) (c .common-multiple .result .multiple)
+within : (c : tie.After-common-multiple) → JobsWithin (room5 (c .before)) (c .common-multiple .result .jobs) (c .common-multiple .result .multiple)
 within c = c .common-multiple .ensures (to-long (c .before) .0 .0 .1)
 
 -- ---- The needs
