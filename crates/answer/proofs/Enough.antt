@@ -1,6 +1,7 @@
 -- How much of an input matters: the first 649 bytes, since no good text is longer than 648.
 --   read-near      the reading of the first 649 bytes is that of the whole text
 --   answer-near    and so is the answer
+--   text-near      in buffers of the program's sizes too
 use Prim.Native.Nat.{ℕ, _≤_, _<_}
 use native.Mathlib.Omega.{arith}
 use mathlib.Core.Path.{_≡_, subst}
@@ -18,7 +19,7 @@ use Rattle.paper.specs.Reply.{ReadReply}
 use Rattle.paper.proofs.Texts.{good-short}
 use Rattle.paper.proofs.BadLines.{bad-line-near}
 use Rattle.answer.specs.Calls.{OfText, broken, good}
-use Rattle.answer.specs.Lines.{Answered}
+use Rattle.answer.specs.Lines.{Answered, TextAnswered}
 
 module _ (text : List ℕ) where
   whole : length text ≤ 649 → take 649 text ≡ text
@@ -47,3 +48,6 @@ module _ (text : List ℕ) where
   pub answer-near : {table₀ plan₀ lines₀ : List ℕ} {n : ℕ} {table plan lines : List ℕ}
       → Answered (take 649 text) table₀ plan₀ lines₀ n table plan lines → Answered text table₀ plan₀ lines₀ n table plan lines
   answer-near a = record { numbers = a .numbers; says = of-near (a .says); prints = a .prints }
+
+  pub text-near : {lines₀ lines : List ℕ} {n : ℕ} → TextAnswered (take 649 text) lines₀ n lines → TextAnswered text lines₀ n lines
+  text-near a = record { numbers = a .numbers; table = a .table; plan = a .plan; says = of-near (a .says); place = a .place; same = a .same }

@@ -6,8 +6,7 @@
 --   answer-length                  the first line has 29 bytes, each slot 7, and `ff` 3
 --   SlotsTo, slots-start, slots-turn, slots-end   the loop of `put_slots`
 --   not-put, slots-fit, ending-fits, parts-put   no room for the lines; or room for each part, and the parts put
---   prints-within                  the bytes put lie in the buffer
---   slots-within                   the plan of a reply lies in its buffer
+--   slots-within                   the plan of a reply fits into the buffer lent
 use Prim.Native.Nat.{ℕ, _+_, _*_, _-_, _/_, _≤_, _<_}
 use native.Mathlib.Omega.{arith}
 use native.Mathlib.Nat.{zero-add}
@@ -226,17 +225,7 @@ module _ (N : Numbers) (plan lines₀ : List ℕ) {s : ℕ} (same : s ≡ planSl
             short = λ (k : length lines₀ < length (a ++ t ++ ending)). absurd (omega arith);
           })
 
--- the bytes put lie in the buffer
-pub prints-within : {lines buffer₀ buffer : List ℕ} {n : ℕ} → Prints lines buffer₀ n buffer → n ≤ length buffer
-prints-within {lines} {buffer₀} {buffer} {n} p =
-    ⊎-elim
-    (λ (h : length buffer₀ < length lines). let e = p .short h .0 in omega arith)
-    (λ (h : length lines ≤ length buffer₀).
-    let e = p .fits h in
-    omega (arith, e .0, ap length (e .1), length-append lines (drop (length lines) buffer₀)))
-    (lt-or-le (length buffer₀) (length lines))
-
--- ---- The plan lies in its buffer
+-- ---- The plan fits into its buffer
 
 undecided-slots : (d : Undecided) → planSlots (undecidedNumbers d) ≡ 0
 undecided-slots (undecided.Refused r) = refused-slots r
@@ -244,14 +233,12 @@ undecided-slots undecided.Table = refl
 undecided-slots undecided.Room = refl
 
 planned-within : {room : Room} {table₀ plan₀ table plan : List ℕ} (r : Planned) → PlanReply room table₀ plan₀ r table plan
-    → planSlots (plannedNumbers r) ≤ length plan
-planned-within {plan₀ = plan₀} (planned.Good n a c) x =
-    let g = x .says in
-    omega (arith, g .cycle, g .fits, ap length (g .buffer), length-append (g .masks) (drop (length (g .masks)) plan₀))
+    → planSlots (plannedNumbers r) ≤ length plan₀
+planned-within (planned.Good n a c) x = let g = x .says in omega (arith, g .cycle, g .fits)
 planned-within (planned.None n) x = omega arith
 planned-within (planned.Undecided d) x = omega (arith, undecided-slots d)
 planned-within (planned.Short i) x = omega arith
 
-pub slots-within : {text table₀ plan₀ table plan : List ℕ} {N : Numbers} → PlanOfText text table₀ plan₀ table plan N → planSlots N ≤ length plan
+pub slots-within : {text table₀ plan₀ table plan : List ℕ} {N : Numbers} → PlanOfText text table₀ plan₀ table plan N → planSlots N ≤ length plan₀
 slots-within (broken i room x e f) = omega (arith, ap planSlots e)
 slots-within (good room x y) = omega (arith, ap planSlots (y .told), planned-within (y .answer) (y .promised))

@@ -9,9 +9,20 @@ ghost use Rattle.paper.specs.Text.{line};
 ghost use Rattle.paper.specs.Answer.{fourBytes, answerFrame, slotFrame};
 ghost use Rattle.digits.specs.Digits.{Puts};
 ghost use Rattle.answer.specs.Calls.{CheckOfText, PlanOfText, JudgeOfText};
-ghost use Rattle.answer.specs.Lines.{planSlots, two, printed, Prints, Answered};
+ghost use Rattle.answer.specs.Lines.{planSlots, two, printed, Prints, Answered, TextAnswered, InputAnswered};
 use paper::Numbers;
 use paper::Reading;
+
+// The first bytes of an input that tell its answer: no room text is longer than 648.
+pub const INPUT: usize = 649;
+
+// The numbers of a table of 1,536 configurations, and the slots of the plan buffer.
+const TABLE: usize = 6144;
+
+const SLOTS: usize = 1536;
+
+// The bytes of the longest answer: 29 for the first line, 7 for each slot, 3 for `ff`.
+pub const LINES: usize = 10784;
 
 // The reply to checking the room of a text.
 pub fn check_of(text: &[u8]) -> Numbers
@@ -50,6 +61,26 @@ pub fn judge_of(text: &[u8], table: &mut [u64], past: &[u16]) -> Numbers
     }
     let judged = planner::judge(read.room, table, past);
     reply::of_judged(judged)
+}
+
+// The answer to an input of which so many bytes were read, all of them or the first 649: its lines, and how many bytes they take.
+pub fn answer_input(input: [u8; INPUT], read: usize, lines: &mut [u8; LINES]) -> usize
+    ensures { λ n. ⌜ InputAnswered input read (now (lines .entry)) n (now (lines .exit)) ⌝ }
+{
+    if read < INPUT {
+        return answer_text(&input[..read], lines);
+    }
+    answer_text(&input[..], lines)
+}
+
+// The answer to a room text, with a table of 1,536 configurations and a plan buffer of 1,536 slots: its lines, and how many
+// bytes they take.
+pub fn answer_text(text: &[u8], lines: &mut [u8; LINES]) -> usize
+    ensures { λ n. ⌜ TextAnswered (now (text .entry)) (now (lines .entry)) n (now (lines .exit)) ⌝ }
+{
+    let mut table = [0u64; TABLE];
+    let mut plan = [0u16; SLOTS];
+    put_answer(text, &mut table[..], &mut plan[..], &mut lines[..])
 }
 
 // Plans the room of a text, and puts the lines of the answer at the start of a buffer: how many bytes they take, or 0 where they

@@ -1,42 +1,57 @@
--- A reply told: its numbers stored at the start of a buffer.
---   place-two, place-three   a buffer of five numbers has its places after stores
---   stored, stored-five      five numbers stored at the start of a buffer
---   told-short, told-five    a reply told, to a buffer below five numbers and to a longer one
-use Prim.Native.Nat.{ℕ, _≤_, _<_}
-use native.Mathlib.Omega.{arith}
-use mathlib.Core.Path.{_≡_, refl}
-use mathlib.Core.List.{List, [], _∷_}
-use lib.ListN.{length, set, length-set}
+-- One reply of each exported call: two codes, rows of numbers and lent buffers that meet its relation for the same arguments are equal.
+--   told-one          where what is promised leaves one reply
+--   check-told-one, plan-told-one, judge-told-one, read-told-one, write-told-one   the five calls
+use Prim.Native.Nat.{ℕ}
+use mathlib.Core.Path.{_≡_, sym, ap, _∙_, subst}
+use mathlib.Core.List.{List}
+use Rattle.paper.specs.declared.Room.{Room}
 use Rattle.paper.specs.declared.Numbers.{Numbers}
-use Rattle.paper.specs.Reply.{written}
-use Rattle.export.specs.Calls.{five, Tells}
+use Rattle.paper.specs.Reply.{readingNumbers}
+use Rattle.paper.proofs.Replies.{read-reply-one, write-reply-one}
+use Rattle.answer.specs.Calls.{CheckOfText, PlanOfText, JudgeOfText}
+use Rattle.answer.proofs.One.{of-answer-one, check-one, plan-one, judge-one}
+use Rattle.export.specs.Calls.{five, Told}
+use Rattle.export.specs.Bytes.{Holds, roomOf, ReadOfText, WriteOfBytes}
+use Rattle.export.proofs.Bytes.{bytes-one}
 
--- the numbers at the start of a buffer, one after the other
-abbrev pub stored : Numbers → List ℕ → List ℕ
-stored N buffer = set (set (set (set (set buffer 0 (N .code)) 1 (N .count)) 2 (N .place)) 3 (N .prefix)) 4 (N .cycle)
+-- Same is what two calls share beside their numbers
+pub told-one : {P P′ : Numbers → Type 0} {Same : Type 0} {code code′ : ℕ} {numbers numbers′ : List ℕ}
+    → ((N N′ : Numbers) → P N → P′ N′ → (N ≡ N′) × Same) → Told P code numbers → Told P′ code′ numbers′
+    → (code ≡ code′) × (numbers ≡ numbers′) × Same
+told-one one x y =
+    let d = one (x .reply) (y .reply) (x .promised) (y .promised) in (
+      x .tells .code-is ∙ ap (λ (N : Numbers). N .code) (d .0) ∙ sym (y .tells .code-is),
+      x .tells .numbers-are ∙ ap five (d .0) ∙ sym (y .tells .numbers-are),
+      d .1,
+    )
 
-module _ (buffer : List ℕ) (h : 5 ≤ length buffer) (x₀ x₁ x₂ : ℕ) where
-  pub place-two : 2 < length (set (set buffer 0 x₀) 1 x₁)
-  place-two = rw length-set (rw length-set (omega arith))
+-- the reader's reply and the bytes of its room
+read-one : (text : List ℕ) {bytes bytes′ : List ℕ} {N N′ : Numbers} → ReadOfText text bytes N → ReadOfText text bytes′ N′ → (N ≡ N′) × (bytes ≡ bytes′)
+read-one text {bytes} x y =
+    let d = read-reply-one text (x .reading) (y .reading) (x .room) (y .room) (x .says) (y .says) in
+    (x .told ∙ ap readingNumbers (d .0) ∙ sym (y .told), bytes-one (subst (Holds bytes) (d .1) (x .holds)) (y .holds))
 
-  pub place-three : 3 < length (set (set (set buffer 0 x₀) 1 x₁) 2 x₂)
-  place-three = rw length-set (rw length-set (rw length-set (omega arith)))
+module _ (text : List ℕ) {code code′ : ℕ} {numbers numbers′ : List ℕ} where
+  pub check-told-one : Told (CheckOfText text) code numbers → Told (CheckOfText text) code′ numbers′ → (code ≡ code′) × (numbers ≡ numbers′)
+  check-told-one x y = let d = told-one {Same = Unit {0}} (λ _ _ p q. (check-one text p q, tt)) x y in (d .0, d .1)
 
-module _ (N : Numbers) where
-  stored-five : (buffer : List ℕ) → 5 ≤ length buffer → stored N buffer ≡ written (five N) buffer
-  stored-five [] h = absurd (omega arith)
-  stored-five (x₀ ∷ []) h = absurd (omega arith)
-  stored-five (x₀ ∷ x₁ ∷ []) h = absurd (omega arith)
-  stored-five (x₀ ∷ x₁ ∷ x₂ ∷ []) h = absurd (omega arith)
-  stored-five (x₀ ∷ x₁ ∷ x₂ ∷ x₃ ∷ []) h = absurd (omega arith)
-  stored-five (x₀ ∷ x₁ ∷ x₂ ∷ x₃ ∷ x₄ ∷ l) h = refl
+  pub plan-told-one : (table₀ plan₀ : List ℕ) {table plan table′ plan′ : List ℕ} → Told (PlanOfText text table₀ plan₀ table plan) code numbers
+      → Told (PlanOfText text table₀ plan₀ table′ plan′) code′ numbers′
+      → (code ≡ code′) × (numbers ≡ numbers′) × (table ≡ table′) × (plan ≡ plan′)
+  plan-told-one table₀ plan₀ {table} {plan} {table′} {plan′} x y =
+      let d = told-one {Same = (table ≡ table′) × (plan ≡ plan′)} (λ _ _ p q. let e = plan-one text table₀ plan₀ p q in (e .0, (e .1, e .2))) x y in
+      (d .0, d .1, d .2 .0, d .2 .1)
 
-  pub told-short : (buffer : List ℕ) → length buffer < 5 → Tells N buffer (N .code) buffer
-  told-short buffer h = record { code-is = refl; fits = λ (k : 5 ≤ length buffer). absurd (omega arith); short = λ _. refl }
+  pub judge-told-one : (past table₀ : List ℕ) {table table′ : List ℕ} → Told (JudgeOfText text past table₀ table) code numbers
+      → Told (JudgeOfText text past table₀ table′) code′ numbers′ → (code ≡ code′) × (numbers ≡ numbers′) × (table ≡ table′)
+  judge-told-one past table₀ x y = told-one (λ _ _ p q. judge-one text past table₀ p q) x y
 
-  pub told-five : (buffer : List ℕ) → 5 ≤ length buffer → Tells N buffer (N .code) (stored N buffer)
-  told-five buffer h = record {
-    code-is = refl;
-    fits = λ _. stored-five buffer h;
-    short = λ (k : length buffer < 5). absurd (omega arith);
-  }
+  pub read-told-one : {bytes bytes′ : List ℕ} → Told (ReadOfText text bytes) code numbers → Told (ReadOfText text bytes′) code′ numbers′
+      → (code ≡ code′) × (numbers ≡ numbers′) × (bytes ≡ bytes′)
+  read-told-one x y = told-one (λ _ _ p q. read-one text p q) x y
+
+pub write-told-one : (bytes text₀ : List ℕ) {text text′ numbers numbers′ : List ℕ} {code code′ : ℕ}
+    → Told (WriteOfBytes bytes text₀ text) code numbers → Told (WriteOfBytes bytes text₀ text′) code′ numbers′
+    → (code ≡ code′) × (numbers ≡ numbers′) × (text ≡ text′)
+write-told-one bytes text₀ {text} {text′} x y =
+    told-one (λ _ _ p q. of-answer-one (λ r r′ a b. write-reply-one (roomOf bytes) text₀ r r′ text text′ a b) p q) x y

@@ -2,23 +2,21 @@
 --   size                                    228
 --   countBytes, jobBytes, sectionBytes, linkBytes   the bytes of the counts and of an entry
 --   ByteAt                                  byte k of a room
---   Holds                                   a buffer whose first 228 bytes are a room
---   Laid                                    a room put at the start of a buffer, the rest as found
+--   Holds                                   the bytes of a room
 --   jobAt, sectionAt, linkAt                the entry that stands at a place
---   shortRoom                               SHORT where 228 bytes are needed
+--   roomOf                                  the room in 228 bytes
 --   ReadOfText, WriteOfBytes                the replies of reading and writing
-use Prim.Native.Nat.{ℕ, _+_, _*_, _≤_, _<_}
+use Prim.Native.Nat.{ℕ, _+_, _*_, _<_}
 use mathlib.Core.Path.{_≡_}
 use mathlib.Core.List.{List, [], _∷_}
-use lib.ListN.{length, getD, drop}
+use lib.ListN.{length, getD}
+use Rattle.laws.specs.Lists.{row}
 use Rattle.paper.specs.declared.Room.{Room}
 use Rattle.paper.specs.declared.Job.{Job}
 use Rattle.paper.specs.declared.Section.{Section}
 use Rattle.paper.specs.declared.Link.{Link}
 use Rattle.paper.specs.declared.Numbers.{Numbers}
 use Rattle.paper.specs.declared.Reading.{Reading}
-use Rattle.paper.specs.declared.Reading.the-variants as reading
-use Rattle.paper.specs.declared.Writing.the-variants as writing
 use Rattle.paper.specs.Room.{job, section, link}
 use Rattle.paper.specs.Reply.{readingNumbers, writingNumbers, ReadReply, WriteReply}
 use Rattle.answer.specs.Calls.{OfAnswer}
@@ -47,41 +45,40 @@ pub record ByteAt (room : Room) (k x : ℕ) : Type 0 where
   pub section : (q d : ℕ) → q < 32 → d < 4 → k ≡ 68 + 4 * q + d → x ≡ getD (sectionBytes (section room q)) d 0
   pub link : (q d : ℕ) → q < 16 → d < 2 → k ≡ 196 + 2 * q + d → x ≡ getD (linkBytes (link room q)) d 0
 
-pub record Holds (buffer : List ℕ) (room : Room) : Type 0 where
-  pub long : size ≤ length buffer
-  pub bytes : (k : ℕ) → k < size → ByteAt room k (getD buffer k 0)
-
-pub record Laid (room : Room) (buffer₀ buffer : List ℕ) : Type 0 where
-  pub holds : Holds buffer room
-  pub same : length buffer ≡ length buffer₀
-  pub rest : drop size buffer ≡ drop size buffer₀
+pub record Holds (bytes : List ℕ) (room : Room) : Type 0 where
+  pub long : length bytes ≡ size
+  pub byte : (k : ℕ) → k < size → ByteAt room k (getD bytes k 0)
 
 abbrev pub jobAt : List ℕ → ℕ → Job
-jobAt buffer at = record { first = getD buffer at 0; load = getD buffer (at + 1) 0; deadline = getD buffer (at + 2) 0; period = getD buffer (at + 3) 0 }
+jobAt bytes at = record { first = getD bytes at 0; load = getD bytes (at + 1) 0; deadline = getD bytes (at + 2) 0; period = getD bytes (at + 3) 0 }
 
 abbrev pub sectionAt : List ℕ → ℕ → Section
-sectionAt buffer at = record { job = getD buffer at 0; block = getD buffer (at + 1) 0; first = getD buffer (at + 2) 0; after = getD buffer (at + 3) 0 }
+sectionAt bytes at = record { job = getD bytes at 0; block = getD bytes (at + 1) 0; first = getD bytes (at + 2) 0; after = getD bytes (at + 3) 0 }
 
 abbrev pub linkAt : List ℕ → ℕ → Link
-linkAt buffer at = record { sender = getD buffer at 0; receiver = getD buffer (at + 1) 0 }
+linkAt bytes at = record { sender = getD bytes at 0; receiver = getD bytes (at + 1) 0 }
+
+abbrev pub roomOf : List ℕ → Room
+roomOf bytes = record {
+  engines = getD bytes 0 0;
+  jobs = getD bytes 1 0;
+  sections = getD bytes 2 0;
+  links = getD bytes 3 0;
+  job = row (λ i. jobAt bytes (4 + 4 * i)) 0 16;
+  section = row (λ q. sectionAt bytes (68 + 4 * q)) 0 32;
+  link = row (λ q. linkAt bytes (196 + 2 * q)) 0 16;
+}
 
 -- ---- The calls
 
--- SHORT with the length of a room
-abbrev pub shortRoom : Numbers
-shortRoom = writingNumbers (writing.Short size)
+-- the reader's reply, and the bytes of the room that it hands back: all zeros on TEXT
+pub record ReadOfText (text bytes : List ℕ) (N : Numbers) : Type 0 where
+  pub reading : Reading
+  pub room : Room
+  pub says : ReadReply text reading room
+  pub told : N ≡ readingNumbers reading
+  pub holds : Holds bytes room
 
--- the room that the reader hands back, all zeros on TEXT; in a buffer below 228 bytes nothing, and SHORT where the text is good
-pub data ReadOfText (text buffer₀ buffer : List ℕ) : Numbers → Type 0 where
-  laid : {N : Numbers} (r : Reading) (room : Room) → ReadReply text r room → N ≡ readingNumbers r → Laid room buffer₀ buffer
-      → ReadOfText text buffer₀ buffer N
-  unread : {N : Numbers} (i : ℕ) (room : Room) → ReadReply text (reading.Text i) room → N ≡ readingNumbers (reading.Text i)
-      → length buffer₀ < size → buffer ≡ buffer₀ → ReadOfText text buffer₀ buffer N
-  narrow : {N : Numbers} (room : Room) → ReadReply text reading.Good room → N ≡ shortRoom → length buffer₀ < size → buffer ≡ buffer₀
-      → ReadOfText text buffer₀ buffer N
-
--- SHORT below 228 bytes, else what the writer answers of the room held
-pub data WriteOfBytes (bytes text₀ text : List ℕ) : Numbers → Type 0 where
-  few : {N : Numbers} → N ≡ shortRoom → length bytes < size → text ≡ text₀ → WriteOfBytes bytes text₀ text N
-  held : {N : Numbers} (room : Room) → Holds bytes room → OfAnswer writingNumbers (λ r. WriteReply room text₀ r text) N
-      → WriteOfBytes bytes text₀ text N
+-- the writer's reply to the room in the bytes
+abbrev pub WriteOfBytes : List ℕ → List ℕ → List ℕ → Numbers → Type 0
+WriteOfBytes bytes text₀ text = OfAnswer writingNumbers (λ r. WriteReply (roomOf bytes) text₀ r text)

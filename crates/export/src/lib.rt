@@ -1,25 +1,23 @@
-// The calls for C and Rust. A room comes as its text; a reply goes back as its code, and as five
-// numbers where their buffer has room for them.
-ghost use Prim.Native.Nat.{ℕ, _+_, _*_, _≤_, _<_};
+// The calls for C and Rust. A room comes as its text, or as its 228 bytes; a reply goes back as its code and as five numbers.
+ghost use Prim.Native.Nat.{_+_, _*_, _<_};
 ghost use mathlib.Core.Path.{_≡_};
-ghost use lib.ListN.{length, getD};
-ghost use Rattle.paper.specs.Room.{noJob, noSection, noLink};
-ghost use Rattle.reply.specs.Numbers.{SameNumbers};
+ghost use Rattle.laws.specs.Lists.{row};
 ghost use Rattle.answer.specs.Calls.{CheckOfText, PlanOfText, JudgeOfText};
 ghost use Rattle.export.specs.Calls.{Tells, Told};
-ghost use Rattle.export.specs.Bytes.{size, ByteAt, Holds, Laid, jobAt, sectionAt, linkAt, shortRoom, ReadOfText, WriteOfBytes};
+ghost use Rattle.export.specs.Bytes.{size, ByteAt, Holds, jobAt, sectionAt, linkAt, roomOf, ReadOfText, WriteOfBytes};
 use paper::Job;
 use paper::Link;
 use paper::Numbers;
-use paper::Reading;
 use paper::Room;
 use paper::Section;
-use paper::Writing;
+
+// The bytes of a room: four counts, 16 jobs, 32 sections and 16 links.
+const SIZE: usize = 228;
 
 // Checks the room of a text.
 #[no_mangle]
-pub extern "C" fn stoerwjok_check(text: &[u8], numbers: &mut [u64]) -> u64
-    ensures { λ n. ⌜ Told (CheckOfText (now (text .entry))) (now (numbers .entry)) n (now (numbers .exit)) ⌝ }
+pub extern "C" fn stoerwjok_check(text: &[u8], numbers: &mut [u64; 5]) -> u64
+    ensures { λ n. ⌜ Told (CheckOfText (now (text .entry))) n (now (numbers .exit)) ⌝ }
 {
     let reply = answer::check_of(text);
     tell(reply, numbers)
@@ -31,10 +29,10 @@ pub extern "C" fn stoerwjok_plan(
     text: &[u8],
     table: &mut [u64],
     plan: &mut [u16],
-    numbers: &mut [u64],
+    numbers: &mut [u64; 5],
 ) -> u64
     ensures { λ n. ⌜ Told (PlanOfText (now (text .entry)) (now (table .entry)) (now (plan .entry)) (now (table .exit)) (now (plan .exit)))
-        (now (numbers .entry)) n (now (numbers .exit)) ⌝ }
+        n (now (numbers .exit)) ⌝ }
 {
     let reply = answer::plan_of(text, table, plan);
     tell(reply, numbers)
@@ -46,79 +44,65 @@ pub extern "C" fn stoerwjok_judge(
     text: &[u8],
     table: &mut [u64],
     past: &[u16],
-    numbers: &mut [u64],
+    numbers: &mut [u64; 5],
 ) -> u64
-    ensures { λ n. ⌜ Told (JudgeOfText (now (text .entry)) (now (past .entry)) (now (table .entry)) (now (table .exit)))
-        (now (numbers .entry)) n (now (numbers .exit)) ⌝ }
+    ensures { λ n. ⌜ Told (JudgeOfText (now (text .entry)) (now (past .entry)) (now (table .entry)) (now (table .exit))) n (now (numbers .exit)) ⌝ }
 {
     let reply = answer::judge_of(text, table, past);
     tell(reply, numbers)
 }
 
-// Reads a room text into the 228 bytes of a room.
+// Reads a room text into the 228 bytes of a room, all zeros on TEXT.
 #[no_mangle]
-pub extern "C" fn stoerwjok_read(text: &[u8], room: &mut [u8], numbers: &mut [u64]) -> u64
-    ensures { λ n. ⌜ Told (ReadOfText (now (text .entry)) (now (room .entry)) (now (room .exit))) (now (numbers .entry)) n (now (numbers .exit)) ⌝ }
+pub extern "C" fn stoerwjok_read(text: &[u8], room: &mut [u8; SIZE], numbers: &mut [u64; 5]) -> u64
+    ensures { λ n. ⌜ Told (ReadOfText (now (text .entry)) (now (room .exit))) n (now (numbers .exit)) ⌝ }
 {
-    let reply = read_of(text, room);
+    let read = text::read(text);
+    let bytes = bytes_of(read.room);
+    *room = bytes;
+    let reading = read.reply;
+    let reply = reply::of_reading(reading);
     tell(reply, numbers)
 }
 
 // Writes the 228 bytes of a room as its text.
 #[no_mangle]
-pub extern "C" fn stoerwjok_write(room: &[u8], text: &mut [u8], numbers: &mut [u64]) -> u64
-    ensures { λ n. ⌜ Told (WriteOfBytes (now (room .entry)) (now (text .entry)) (now (text .exit))) (now (numbers .entry)) n (now (numbers .exit)) ⌝ }
+pub extern "C" fn stoerwjok_write(room: &[u8; SIZE], text: &mut [u8], numbers: &mut [u64; 5]) -> u64
+    ensures { λ n. ⌜ Told (WriteOfBytes (now (room .entry)) (now (text .entry)) (now (text .exit))) n (now (numbers .exit)) ⌝ }
 {
-    let reply = write_of(room, text);
+    let bytes = *room;
+    let held = room_of(bytes);
+    let writing = text::write(held, text);
+    let reply = reply::of_writing(writing);
     tell(reply, numbers)
 }
 
-// Reads a text: its room in the first 228 bytes, all zeros on TEXT.
-fn read_of(text: &[u8], bytes: &mut [u8]) -> Numbers
-    ensures { λ n. ⌜ ReadOfText (now (text .entry)) (now (bytes .entry)) (now (bytes .exit)) n ⌝ }
+// Hands back the code of a reply, and its numbers.
+fn tell(reply: Numbers, numbers: &mut [u64; 5]) -> u64
+    ensures { λ n. ⌜ Tells reply n (now (numbers .exit)) ⌝ }
 {
-    let read = text::read(text);
-    let reading = read.reply;
-    if 228 <= bytes.len() {
-        put_room(read.room, bytes);
-        return reply::of_reading(reading);
-    }
-    if let Reading::Text { place: _ } = reading {
-        return reply::of_reading(reading);
-    }
-    short_room()
+    let code = reply.code as u64;
+    *numbers = [
+        code,
+        reply.count as u64,
+        reply.place as u64,
+        reply.prefix as u64,
+        reply.cycle as u64,
+    ];
+    code
 }
 
-// SHORT where a room's 228 bytes do not fit.
-fn short_room() -> Numbers
-    ensures { λ n. ⌜ SameNumbers n shortRoom ⌝ }
+// The bytes of a room.
+fn bytes_of(room: Room) -> [u8; SIZE]
+    ensures { λ r. ⌜ Holds r room ⌝ }
 {
-    let short = Writing::Short { place: 228 };
-    reply::of_writing(short)
-}
-
-// Writes the room in the first 228 bytes.
-fn write_of(bytes: &[u8], text: &mut [u8]) -> Numbers
-    ensures { λ n. ⌜ WriteOfBytes (now (bytes .entry)) (now (text .entry)) (now (text .exit)) n ⌝ }
-{
-    if bytes.len() < 228 {
-        return short_room();
-    }
-    let room = room_of(bytes);
-    let writing = text::write(room, text);
-    reply::of_writing(writing)
-}
-
-// Puts a room at the start of a buffer.
-fn put_room(room: Room, bytes: &mut [u8])
-    requires { ⌜ size ≤ length (now bytes) ⌝ }
-    ensures { λ _. ⌜ Laid room (now (bytes .entry)) (now (bytes .exit)) ⌝ }
-{
+    let mut bytes = [0u8; SIZE];
     let mut k: usize = 0;
-    while k < 228 {
+    while k < SIZE {
         bytes[k] = byte_of(room, k);
         k += 1;
     }
+    bytes
 }
 
 // Byte `k` of a room.
@@ -145,10 +129,9 @@ fn byte_of(room: Room, k: usize) -> u8
     byte[k % 2]
 }
 
-// The room at the start of a buffer.
-fn room_of(bytes: &[u8]) -> Room
-    requires { ⌜ size ≤ length (now bytes) ⌝ }
-    ensures { λ room. ⌜ Holds (now (bytes .entry)) room ⌝ }
+// The room in 228 bytes.
+fn room_of(bytes: [u8; SIZE]) -> Room
+    ensures { λ room. ⌜ room ≡ roomOf bytes ⌝ }
 {
     let job = jobs_of(bytes);
     let section = sections_of(bytes);
@@ -164,10 +147,9 @@ fn room_of(bytes: &[u8]) -> Room
     }
 }
 
-// The sixteen jobs at the start of a buffer.
-fn jobs_of(bytes: &[u8]) -> [Job; 16]
-    requires { ⌜ size ≤ length (now bytes) ⌝ }
-    ensures { λ r. ⌜ ((i : ℕ) → i < 16 → getD r i noJob ≡ jobAt (now (bytes .entry)) (4 + 4 * i)) ⌝ }
+// The sixteen jobs.
+fn jobs_of(bytes: [u8; SIZE]) -> [Job; 16]
+    ensures { λ r. ⌜ r ≡ row (λ i. jobAt bytes (4 + 4 * i)) 0 16 ⌝ }
 {
     let mut job = [Job {
         first: 0,
@@ -190,9 +172,8 @@ fn jobs_of(bytes: &[u8]) -> [Job; 16]
 }
 
 // The 32 sections.
-fn sections_of(bytes: &[u8]) -> [Section; 32]
-    requires { ⌜ size ≤ length (now bytes) ⌝ }
-    ensures { λ r. ⌜ ((q : ℕ) → q < 32 → getD r q noSection ≡ sectionAt (now (bytes .entry)) (68 + 4 * q)) ⌝ }
+fn sections_of(bytes: [u8; SIZE]) -> [Section; 32]
+    ensures { λ r. ⌜ r ≡ row (λ q. sectionAt bytes (68 + 4 * q)) 0 32 ⌝ }
 {
     let mut section = [Section {
         job: 0,
@@ -215,9 +196,8 @@ fn sections_of(bytes: &[u8]) -> [Section; 32]
 }
 
 // The sixteen links.
-fn links_of(bytes: &[u8]) -> [Link; 16]
-    requires { ⌜ size ≤ length (now bytes) ⌝ }
-    ensures { λ r. ⌜ ((q : ℕ) → q < 16 → getD r q noLink ≡ linkAt (now (bytes .entry)) (196 + 2 * q)) ⌝ }
+fn links_of(bytes: [u8; SIZE]) -> [Link; 16]
+    ensures { λ r. ⌜ r ≡ row (λ q. linkAt bytes (196 + 2 * q)) 0 16 ⌝ }
 {
     let mut link = [Link {
         sender: 0,
@@ -233,20 +213,4 @@ fn links_of(bytes: &[u8]) -> [Link; 16]
         q += 1;
     }
     link
-}
-
-// Hands back the code of a reply, and its numbers where five fit.
-fn tell(reply: Numbers, numbers: &mut [u64]) -> u64
-    ensures { λ n. ⌜ Tells reply (now (numbers .entry)) n (now (numbers .exit)) ⌝ }
-{
-    let code = reply.code as u64;
-    if numbers.len() < 5 {
-        return code;
-    }
-    numbers[0] = code;
-    numbers[1] = reply.count as u64;
-    numbers[2] = reply.place as u64;
-    numbers[3] = reply.prefix as u64;
-    numbers[4] = reply.cycle as u64;
-    code
 }

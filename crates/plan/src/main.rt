@@ -1,5 +1,6 @@
 // Reads a room text on standard input and prints the answer.
-ghost use Rattle.plan.specs.Inputs.{Within};
+use answer::INPUT;
+use answer::LINES;
 use libc::STDIN_FILENO;
 use libc::STDOUT_FILENO;
 
@@ -9,20 +10,18 @@ enum Input {
     Failed,
 }
 
-// The first 649 bytes of the input tell its answer: no room text is longer than 648 (crate answer, `answer-near`).
+// Reads the input, and prints its answer; nothing where a read fails.
 fn main() {
-    let mut text = [0u8; 649];
+    let mut text = [0u8; INPUT];
     let input = read_input(&mut text[..]);
     match input {
-        Input::Bytes(n) => print_answer(&text[..n]),
+        Input::Bytes(n) => print_answer(text, n),
         Input::Failed => {}
     }
 }
 
 // Reads until the buffer is full or the input ends, in whatever pieces it comes.
-fn read_input(text: &mut [u8]) -> Input
-    ensures { λ r. ⌜ Within r (now (text .exit)) ⌝ }
-{
+fn read_input(text: &mut [u8]) -> Input {
     let mut done: usize = 0;
     while done < text.len() {
         let got = libc::read(STDIN_FILENO, &mut text[done..]);
@@ -38,11 +37,9 @@ fn read_input(text: &mut [u8]) -> Input
     Input::Bytes(done)
 }
 
-// Prints the answer to a room text, with a table of 1,536 configurations and a plan buffer of 1,536 slots.
-fn print_answer(text: &[u8]) {
-    let mut table = [0u64; 6144];
-    let mut plan = [0u16; 1536];
-    let mut lines = [0u8; 10784]; // 29 for the first line, 7 for each slot, 3 for `ff`
-    let n = answer::put_answer(text, &mut table[..], &mut plan[..], &mut lines[..]);
+// Prints the answer to an input of which so many bytes were read.
+fn print_answer(text: [u8; INPUT], read: usize) {
+    let mut lines = [0u8; LINES];
+    let n = answer::answer_input(text, read, &mut lines);
     io::write_all(STDOUT_FILENO, &lines[..n]);
 }

@@ -8,7 +8,11 @@ plan-of-requires : tie.Need-plan-of-requires
 plan-of-requires c κs = search needs
 
 put-reply-requires : tie.Need-put-reply-requires
-put-reply-requires c κs = slots-within (c .before .before .before .before .before .before .plan-of .ensures)
+put-reply-requires c κs =
+    let p = c .before .before .before .before .before .before .plan-of in
+    let s = slots-within (p .ensures) in
+    let l = p .kept in
+    search needs
 
 same-length : tie.Need-same-length
 same-length c = search needs

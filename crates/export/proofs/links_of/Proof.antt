@@ -17,35 +17,8 @@ abbrev μ-loop : tie.MeasureT-loop
 loop-holds : tie.Need-loop-holds Inv-loop μ-loop
 loop-holds c = filling-start refl
 
-mul-at : tie.Need-mul-at Inv-loop μ-loop
-mul-at c = search needs
-
-add-at : tie.Need-add-at Inv-loop μ-loop
-add-at c = search needs
-
-shared-slice-read-t9 : tie.Need-shared-slice-read-t9 Inv-loop μ-loop
-shared-slice-read-t9 c = search needs
-
-add-t7 : tie.Need-add-t7 Inv-loop μ-loop
-add-t7 c = search needs
-
-shared-slice-read-t11 : tie.Need-shared-slice-read-t11 Inv-loop μ-loop
-shared-slice-read-t11 c = search needs
-
-mul-link : tie.Need-mul-link Inv-loop μ-loop
-mul-link c = search needs
-
-array-set-from-link : tie.Need-array-set-from-link Inv-loop μ-loop
-array-set-from-link c = search needs
-
-add-q : tie.Need-add-q Inv-loop μ-loop
-add-q c = search needs
-
-loop-less : tie.Need-loop-less Inv-loop μ-loop
-loop-less c = search needs
-
 loop-again : tie.Need-loop-again Inv-loop μ-loop
-loop-again c = filling-more (c .before .before .before .loop .inv) (c .before .before .loop-test .taken) refl
+loop-again c = filling-more (c .before .loop .inv) (c .loop-test .taken) refl
 
 returns : tie.Need-returns Inv-loop μ-loop
 returns c = filling-end (c .before .loop .inv) (c .loop-test .left)
@@ -57,14 +30,14 @@ links-of-spec =
     Inv-loop
     μ-loop
     loop-holds
-    mul-at
-    add-at
-    shared-slice-read-t9
-    add-t7
-    shared-slice-read-t11
-    mul-link
-    array-set-from-link
-    add-q
-    loop-less
+    (λ c. search needs)
+    (λ c. search needs)
+    (λ c. search needs)
+    (λ c. search needs)
+    (λ c. search needs)
+    (λ c. search needs)
+    (λ c. search needs)
+    (λ c. search needs)
+    (λ c. search needs)
     loop-again
     returns)
