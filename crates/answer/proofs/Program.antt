@@ -77,7 +77,7 @@ short-buffer {room} x =
     let d = x .decided in
     let c = d .count in
     let y = plan-exists (d .limits) (c .clock) (c .counted) (plan-feasible (x .is)) in
-    let e = uniques.plan-one (x .is) (record { R = c .R; H = c .H; clock = c .clock; plan = y .3 }) in
+    let e = uniques.plan-one (x .is) (record { times = c .times; clock = c .clock; plan = y .3 }) in
     omega (arith, x .short, d .fits, ap length (e .0), y .2)
 
 refusal-code : (r : Refusal) → refusalNumbers r .code < 11
