@@ -92,7 +92,7 @@ pub fn stands_at(text: &[u8], at: usize, part: &[u8]) -> bool
 
 // ---- Put into a buffer
 
-// Puts the line of a frame at a place of a buffer; the place after it.
+// Puts the line of a frame at a place of a buffer, and gives the place after it.
 pub fn put_line(buffer: &mut [u8], at: usize, frame: &[u8]) -> usize
     requires { ⌜ at + (2 * length (now frame) + 1) ≤ length (now buffer) ⌝ }
     ensures { λ next. ⌜ Puts (now (buffer .entry)) at (line (now (frame .entry))) next (now (buffer .exit)) ⌝ }
@@ -107,7 +107,7 @@ pub fn put_line(buffer: &mut [u8], at: usize, frame: &[u8]) -> usize
     next + 1
 }
 
-// Puts the two digits of a byte; the place after them.
+// Puts the two digits of a byte, and gives the place after them.
 pub fn put_byte(buffer: &mut [u8], at: usize, x: u8) -> usize
     requires { ⌜ at + 2 ≤ length (now buffer) ⌝ }
     ensures { λ next. ⌜ Puts (now (buffer .entry)) at (twoDigits x) next (now (buffer .exit)) ⌝ }
@@ -128,7 +128,7 @@ pub fn digit(d: u8) -> u8
     b'a' + (d - 10)
 }
 
-// Puts the fixed line `ff`; the place after it.
+// Puts the fixed line `ff`, and gives the place after it.
 pub fn put_ending(buffer: &mut [u8], at: usize) -> usize
     requires { ⌜ at + 3 ≤ length (now buffer) ⌝ }
     ensures { λ next. ⌜ Puts (now (buffer .entry)) at ending next (now (buffer .exit)) ⌝ }
@@ -136,7 +136,7 @@ pub fn put_ending(buffer: &mut [u8], at: usize) -> usize
     put(buffer, at, b"ff\n")
 }
 
-// Puts a part at a place of a buffer; the place after it.
+// Puts a part at a place of a buffer, and gives the place after it.
 pub fn put(buffer: &mut [u8], at: usize, part: &[u8]) -> usize
     requires { ⌜ at + length (now part) ≤ length (now buffer) ⌝ }
     ensures { λ next. ⌜ Puts (now (buffer .entry)) at (now (part .entry)) next (now (buffer .exit)) ⌝ }
