@@ -26,32 +26,32 @@ static void *idle(void *unused)
 
 static void *call_check(void *unused)
 {
-    stoerwjok_check(text, length, numbers, STOERWJOK_NUMBERS);
+    stoerwjok_check(text, length, numbers);
     return unused;
 }
 
 static void *call_plan(void *unused)
 {
-    stoerwjok_plan(text, length, table, 4 * CONFIGURATIONS, plan, SLOTS, numbers, STOERWJOK_NUMBERS);
+    stoerwjok_plan(text, length, table, 4 * CONFIGURATIONS, plan, SLOTS, numbers);
     slots = (size_t)(numbers[STOERWJOK_PREFIX] + numbers[STOERWJOK_CYCLE]);
     return unused;
 }
 
 static void *call_judge(void *unused)
 {
-    stoerwjok_judge(text, length, table, 4 * CONFIGURATIONS, plan, slots, numbers, STOERWJOK_NUMBERS);
+    stoerwjok_judge(text, length, table, 4 * CONFIGURATIONS, plan, slots, numbers);
     return unused;
 }
 
 static void *call_read(void *unused)
 {
-    stoerwjok_read(text, length, room, STOERWJOK_ROOM_BYTES, numbers, STOERWJOK_NUMBERS);
+    stoerwjok_read(text, length, room, numbers);
     return unused;
 }
 
 static void *call_write(void *unused)
 {
-    stoerwjok_write(room, STOERWJOK_ROOM_BYTES, text, length, numbers, STOERWJOK_NUMBERS);
+    stoerwjok_write(room, text, length, numbers);
     return unused;
 }
 

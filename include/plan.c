@@ -92,7 +92,7 @@ int main(int argc, char **argv)
     if (!read_text(argv[1], &length))
         return trouble(argv[1]);
     uint64_t code = stoerwjok_plan(text, length, table, 4 * CONFIGURATIONS, plan, CONFIGURATIONS,
-                                   numbers, STOERWJOK_NUMBERS);
+                                   numbers);
     /* A reader that has gone is then an error of writing, like a full disk. */
     signal(SIGPIPE, SIG_IGN);
     print_answer(numbers);

@@ -1,8 +1,9 @@
-/* Calls of the proved planner, version 0.1.0. Words and numbers are those of the paper (01).
+/* Calls of the proved planner, version 0.2.0. Words and numbers are those of the paper (01).
 
    What a caller keeps:
-   - A pointer and the length after it are one lent buffer: bytes (text, room), 16-bit masks (plan, past) or 64-bit numbers
-     (table, numbers). The length counts those, not bytes. Where it is 0 the pointer may be null.
+   - A pointer and the length after it are one lent buffer: bytes (text), 16-bit masks (plan, past) or 64-bit numbers (table).
+     The length counts those, not bytes. Where it is 0 the pointer may be null.
+   - Two buffers have a size of their own and no length after them: `numbers` is 5 numbers, `room` 228 bytes. Neither is null.
    - A buffer of numbers begins at an address that 8 divides, one of masks at an address that 2 divides, as C arrays of
      uint64_t and uint16_t do.
    - No two buffers of one call overlap.
@@ -26,8 +27,8 @@ extern "C" {
 
 /* The version, in words and as 10,000 times the first number, 100 times the second, and the third. Until the first
    number is 1, a change of the second may change calls and codes. */
-#define STOERWJOK_VERSION "0.1.0"
-#define STOERWJOK_VERSION_NUMBER 100
+#define STOERWJOK_VERSION "0.2.0"
+#define STOERWJOK_VERSION_NUMBER 200
 
 /* The codes, each STOERWJOK_ and its name: the one list that docs/ANSWER.md, the Rust crate and the tests are held to. */
 #define STOERWJOK_CODES(CODE) \
@@ -77,13 +78,19 @@ enum {
     STOERWJOK_TEXT_BYTES = 648
 };
 
-/* Each function returns the code, and writes code, count, place, prefix and cycle to `numbers` where
-   that has room for five numbers; else `numbers` is left alone. */
+/* A parameter of so many entries, or more. C++ cannot say so, and takes it for a pointer. */
+#ifdef __cplusplus
+#define STOERWJOK_OF(size) size
+#else
+#define STOERWJOK_OF(size) static size
+#endif
+
+/* Each function returns the code, and writes code, count, place, prefix and cycle to `numbers`. */
 
 /* Checks the room of a text.
    Returns 0 GOOD; 2 TEXT with place; 3 to 8 with their places. */
 uint64_t stoerwjok_check(const uint8_t *text, size_t text_length,
-                         uint64_t *numbers, size_t numbers_length);
+                         uint64_t numbers[STOERWJOK_OF(STOERWJOK_NUMBERS)]);
 
 /* Plans the room of a text. Needs a table, four numbers for each configuration, with anything in it. No plan has more slots
    than its room has configurations, so a quarter of the table's length is enough for `plan`.
@@ -93,7 +100,7 @@ uint64_t stoerwjok_check(const uint8_t *text, size_t text_length,
 uint64_t stoerwjok_plan(const uint8_t *text, size_t text_length,
                         uint64_t *table, size_t table_length,
                         uint16_t *plan, size_t plan_length,
-                        uint64_t *numbers, size_t numbers_length);
+                        uint64_t numbers[STOERWJOK_OF(STOERWJOK_NUMBERS)]);
 
 /* Judges a past, masks from slot 0 on. Needs a table as stoerwjok_plan does.
    Returns 0 GOOD with count; 2 TEXT; 3 to 8; 9 TABLE; 10 ROOM; 12 OUT with count and, as place, the
@@ -102,24 +109,25 @@ uint64_t stoerwjok_plan(const uint8_t *text, size_t text_length,
 uint64_t stoerwjok_judge(const uint8_t *text, size_t text_length,
                          uint64_t *table, size_t table_length,
                          const uint16_t *past, size_t past_length,
-                         uint64_t *numbers, size_t numbers_length);
+                         uint64_t numbers[STOERWJOK_OF(STOERWJOK_NUMBERS)]);
 
 /* A room is 228 bytes: engines, jobs, sections, links; 16 jobs of first, load, deadline, period; 32 sections of job, block,
-   first, after; 16 links of sender, receiver. Of a longer buffer the first 228 bytes are the room.
-   A shorter one is left alone, and answered with 11 SHORT and place 228: by writing always, by reading where the text is good. */
+   first, after; 16 links of sender, receiver. */
 
 /* Reads a room text.
-   Returns 0 GOOD, and the room is written; 2 TEXT with place, and the room is all zeros. */
+   Returns 0 GOOD; 2 TEXT with place. The room is written either way: its unused entries are zeros, and on 2 all of it is. */
 uint64_t stoerwjok_read(const uint8_t *text, size_t text_length,
-                        uint8_t *room, size_t room_length,
-                        uint64_t *numbers, size_t numbers_length);
+                        uint8_t room[STOERWJOK_OF(STOERWJOK_ROOM_BYTES)],
+                        uint64_t numbers[STOERWJOK_OF(STOERWJOK_NUMBERS)]);
 
 /* Writes a room as its text.
    Returns 0 GOOD with the bytes written as place; 3 to 8; 11 SHORT with the length of the text as place.
    `text` is as found but for 0. */
-uint64_t stoerwjok_write(const uint8_t *room, size_t room_length,
+uint64_t stoerwjok_write(const uint8_t room[STOERWJOK_OF(STOERWJOK_ROOM_BYTES)],
                          uint8_t *text, size_t text_length,
-                         uint64_t *numbers, size_t numbers_length);
+                         uint64_t numbers[STOERWJOK_OF(STOERWJOK_NUMBERS)]);
+
+#undef STOERWJOK_OF
 
 #ifdef __cplusplus
 }

@@ -31,8 +31,8 @@ pub fn write<'a>(room: &Room, buffer: &'a mut [u8]) -> Written<'a> {
     Written::of(reply, buffer)
 }
 
-/// The numbers that a call lays into a buffer of five.
-pub fn numbers(call: impl FnOnce(&mut [u64]) -> u64) -> Numbers {
+/// The five numbers that a call lays down.
+pub fn numbers(call: impl FnOnce(&mut [u64; 5]) -> u64) -> Numbers {
     let mut numbers = [0; 5];
     call(&mut numbers);
     numbers.into()

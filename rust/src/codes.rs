@@ -99,7 +99,7 @@ impl Numbers {
     }
 }
 
-/// The five numbers that a call laid into its buffer.
+/// The five numbers that a call laid down.
 impl From<[u64; 5]> for Numbers {
     fn from([code, count, place, prefix, cycle]: [u64; 5]) -> Numbers {
         Numbers {

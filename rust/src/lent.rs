@@ -1,16 +1,16 @@
-//! The exported functions on slices, with lent numbers of any length; each returns the code. Every call has slices of its own
-//! for memory, and the exported functions keep to their lengths.
+//! The exported functions on slices, with lent numbers; each returns the code. Every call has slices of its own for memory,
+//! and the exported functions keep to their lengths.
 
-use super::exported::*;
+use crate::exported::*;
+use crate::Room;
 
 /// Checks the room of a text.
-pub fn check(text: &[u8], numbers: &mut [u64]) -> u64 {
-    let (to, length) = (numbers.as_mut_ptr(), numbers.len());
-    unsafe { stoerwjok_check(text.as_ptr(), text.len(), to, length) }
+pub fn check(text: &[u8], numbers: &mut [u64; 5]) -> u64 {
+    unsafe { stoerwjok_check(text.as_ptr(), text.len(), numbers) }
 }
 
 /// Plans the room of a text.
-pub fn plan(text: &[u8], table: &mut [u64], plan: &mut [u16], numbers: &mut [u64]) -> u64 {
+pub fn plan(text: &[u8], table: &mut [u64], plan: &mut [u16], numbers: &mut [u64; 5]) -> u64 {
     unsafe {
         stoerwjok_plan(
             text.as_ptr(),
@@ -19,14 +19,13 @@ pub fn plan(text: &[u8], table: &mut [u64], plan: &mut [u16], numbers: &mut [u64
             table.len(),
             plan.as_mut_ptr(),
             plan.len(),
-            numbers.as_mut_ptr(),
-            numbers.len(),
+            numbers,
         )
     }
 }
 
 /// Judges a past in the room of a text.
-pub fn judge(text: &[u8], table: &mut [u64], past: &[u16], numbers: &mut [u64]) -> u64 {
+pub fn judge(text: &[u8], table: &mut [u64], past: &[u16], numbers: &mut [u64; 5]) -> u64 {
     unsafe {
         stoerwjok_judge(
             text.as_ptr(),
@@ -35,36 +34,17 @@ pub fn judge(text: &[u8], table: &mut [u64], past: &[u16], numbers: &mut [u64]) 
             table.len(),
             past.as_ptr(),
             past.len(),
-            numbers.as_mut_ptr(),
-            numbers.len(),
+            numbers,
         )
     }
 }
 
 /// Reads a room text into the bytes of a room.
-pub fn read(text: &[u8], room: &mut [u8], numbers: &mut [u64]) -> u64 {
-    unsafe {
-        stoerwjok_read(
-            text.as_ptr(),
-            text.len(),
-            room.as_mut_ptr(),
-            room.len(),
-            numbers.as_mut_ptr(),
-            numbers.len(),
-        )
-    }
+pub fn read(text: &[u8], room: &mut [u8; Room::BYTES], numbers: &mut [u64; 5]) -> u64 {
+    unsafe { stoerwjok_read(text.as_ptr(), text.len(), room, numbers) }
 }
 
 /// Writes the bytes of a room as its text.
-pub fn write(room: &[u8], text: &mut [u8], numbers: &mut [u64]) -> u64 {
-    unsafe {
-        stoerwjok_write(
-            room.as_ptr(),
-            room.len(),
-            text.as_mut_ptr(),
-            text.len(),
-            numbers.as_mut_ptr(),
-            numbers.len(),
-        )
-    }
+pub fn write(room: &[u8; Room::BYTES], text: &mut [u8], numbers: &mut [u64; 5]) -> u64 {
+    unsafe { stoerwjok_write(room, text.as_mut_ptr(), text.len(), numbers) }
 }

@@ -101,12 +101,12 @@ fn version() {
 fn what_the_calls_return() {
     let mut table = [0; 64];
     let mut long = vec![0; reference::LONGEST_TABLE + 1];
-    let check = |text: &[u8]| lent::check(text, &mut []);
+    let check = |text: &[u8]| lent::check(text, &mut [0; 5]);
     let room_a = b"a001\na100010202\na100010202\nff\n";
     let none = b"a001\na100010102\na100010102\nff\n";
     let given = [
         ("GOOD", check(room_a)),
-        ("NONE", lent::plan(none, &mut table, &mut [], &mut [])),
+        ("NONE", lent::plan(none, &mut table, &mut [], &mut [0; 5])),
         ("TEXT", check(b"")),
         ("ENGINES", check(b"a009\nff\n")),
         ("JOBS", check(b"a001\nff\n")),
@@ -117,10 +117,13 @@ fn what_the_calls_return() {
             "LONG",
             check(b"a001\na100010140\na10001013f\na100010105\nff\n"),
         ),
-        ("TABLE", lent::plan(room_a, &mut long, &mut [], &mut [])),
-        ("ROOM", lent::plan(room_a, &mut [], &mut [], &mut [])),
-        ("SHORT", lent::plan(room_a, &mut table, &mut [], &mut [])),
-        ("OUT", lent::judge(room_a, &mut table, &[0], &mut [])),
+        ("TABLE", lent::plan(room_a, &mut long, &mut [], &mut [0; 5])),
+        ("ROOM", lent::plan(room_a, &mut [], &mut [], &mut [0; 5])),
+        (
+            "SHORT",
+            lent::plan(room_a, &mut table, &mut [], &mut [0; 5]),
+        ),
+        ("OUT", lent::judge(room_a, &mut table, &[0], &mut [0; 5])),
     ];
     let given = given.map(|(name, number)| (number, name.to_string()));
     assert_eq!(given.to_vec(), header());

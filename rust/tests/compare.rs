@@ -7,7 +7,7 @@ mod generate;
 mod reference;
 
 use generate::{Random, Sizes};
-use reference::{Memory, Reply, Subject, LONGEST_TABLE, NO_ROOM, ROOM_BYTES};
+use reference::{Memory, Reply, Subject, LONGEST_TABLE, ROOM_BYTES};
 use std::collections::{BTreeMap, HashSet};
 use std::env;
 use std::hash::{DefaultHasher, Hash, Hasher};
@@ -186,6 +186,11 @@ impl<T: Copy + PartialEq> Lent<T> {
         &mut self.all[MARGIN..MARGIN + self.length]
     }
 
+    /// The same, as an array of its length.
+    fn lend_array<const N: usize>(&mut self) -> &mut [T; N] {
+        self.lend().try_into().expect("a buffer of this length")
+    }
+
     /// Whether it holds this from its start, and all else is as found.
     fn holds(&self, written: &[T]) -> bool {
         let end = MARGIN + written.len();
@@ -213,7 +218,7 @@ fn table_holds(table: &Lent<u64>, code: u64) -> bool {
 /// A call is made by its wrapper, or as exported with lent numbers.
 enum Way<'a> {
     Wrapper,
-    Exported(&'a mut [u64]),
+    Exported(&'a mut [u64; 5]),
 }
 
 /// Makes the call and says how its reply differs.
@@ -226,17 +231,9 @@ fn replied(
         let given = call(Way::Wrapper);
         return differs(given == Numbers::from(expected.numbers()), &given);
     }
-    let length = match random.one_in(2) {
-        true => 5,
-        false => random.below(9),
-    };
-    let mut lent = Lent::new(length, || random.next());
-    let code = call(Way::Exported(lent.lend())).code.number();
-    let written = match length < 5 {
-        true => Vec::new(),
-        false => expected.numbers().to_vec(),
-    };
-    let same = code == expected.code && lent.holds(&written);
+    let mut lent = Lent::new(5, || random.next());
+    let code = call(Way::Exported(lent.lend_array())).code.number();
+    let same = code == expected.code && lent.holds(&expected.numbers());
     differs(same, &(code, lent.lend()))
 }
 
@@ -310,7 +307,7 @@ fn compare_room(random: &mut Random, totals: &mut Totals) {
         3 => random.below(4),
         _ => text.len(),
     };
-    totals.rooms.add(&bytes);
+    totals.rooms.add(bytes);
     write(random, totals, kind, &bytes, buffer);
     check(random, totals, kind, &text, &Subject::new(&text, 0));
 }
@@ -392,6 +389,7 @@ fn compare_long_tables(random: &mut Random, totals: &mut Totals) {
     }
 }
 
+/// Null pointers where a length is 0.
 fn compare_null_pointers(totals: &mut Totals) {
     let room_a = b"a001\na100010202\na100010202\nff\n";
     let (text, length) = (room_a.as_ptr(), room_a.len());
@@ -399,83 +397,69 @@ fn compare_null_pointers(totals: &mut Totals) {
     let mut table = [7; 16];
     let mut plan = [7; 2];
     let mut room = [7; ROOM_BYTES];
-    let mut numbers = [7; 5];
     let (no_text, no_past) = (null::<u8>(), null::<u16>());
-    let (no_numbers, no_plan, no_bytes) = (null_mut::<u64>(), null_mut::<u16>(), null_mut::<u8>());
-    let to = numbers.as_mut_ptr();
-    let lent = table.as_mut_ptr();
-    let masks = plan.as_mut_ptr();
-    let read = room.as_mut_ptr();
+    let (no_table, no_plan, no_bytes) = (null_mut::<u64>(), null_mut::<u16>(), null_mut::<u8>());
+    let (lent, masks) = (table.as_mut_ptr(), plan.as_mut_ptr());
+    let broken = Reply::at(reference::TEXT, 0);
+    let full = Reply::of(reference::ROOM);
+    let accepted = Reply::of(reference::GOOD).counting(4);
+    let short = |needed| Reply::at(reference::SHORT, needed);
     let replies = unsafe {
         use exported::*;
         [
-            ("check", 2, stoerwjok_check(no_text, 0, to, 5)),
-            ("check", 0, stoerwjok_check(text, length, no_numbers, 0)),
             (
-                "plan",
-                2,
-                stoerwjok_plan(no_text, 0, no_numbers, 0, no_plan, 0, no_numbers, 0),
+                "check",
+                broken,
+                numbers(|to| stoerwjok_check(no_text, 0, to)),
             ),
             (
                 "plan",
-                10,
-                stoerwjok_plan(text, length, no_numbers, 0, masks, 2, to, 5),
+                broken,
+                numbers(|to| stoerwjok_plan(no_text, 0, no_table, 0, no_plan, 0, to)),
             ),
             (
                 "plan",
-                11,
-                stoerwjok_plan(text, length, lent, 16, no_plan, 0, to, 5),
+                full,
+                numbers(|to| stoerwjok_plan(text, length, no_table, 0, masks, 2, to)),
             ),
             (
                 "plan",
-                0,
-                stoerwjok_plan(text, length, lent, 16, masks, 2, no_numbers, 0),
+                short(2),
+                numbers(|to| stoerwjok_plan(text, length, lent, 16, no_plan, 0, to)),
             ),
             (
                 "judge",
-                2,
-                stoerwjok_judge(no_text, 0, no_numbers, 0, no_past, 0, no_numbers, 0),
+                broken,
+                numbers(|to| stoerwjok_judge(no_text, 0, no_table, 0, no_past, 0, to)),
             ),
             (
                 "judge",
-                10,
-                stoerwjok_judge(text, length, no_numbers, 0, no_past, 0, to, 5),
+                full,
+                numbers(|to| stoerwjok_judge(text, length, no_table, 0, no_past, 0, to)),
             ),
             (
                 "judge",
-                0,
-                stoerwjok_judge(text, length, lent, 16, no_past, 0, no_numbers, 0),
-            ),
-            ("read", 2, stoerwjok_read(no_text, 0, no_bytes, 0, to, 5)),
-            (
-                "read",
-                NO_ROOM.code,
-                stoerwjok_read(text, length, no_bytes, 0, no_numbers, 0),
+                accepted,
+                numbers(|to| stoerwjok_judge(text, length, lent, 16, no_past, 0, to)),
             ),
             (
                 "read",
-                0,
-                stoerwjok_read(text, length, read, ROOM_BYTES, no_numbers, 0),
+                broken,
+                numbers(|to| stoerwjok_read(no_text, 0, &mut room, to)),
             ),
             (
                 "write",
-                NO_ROOM.code,
-                stoerwjok_write(no_text, 0, no_bytes, 0, to, 5),
-            ),
-            (
-                "write",
-                11,
-                stoerwjok_write(bytes.as_ptr(), ROOM_BYTES, no_bytes, 0, no_numbers, 0),
+                short(length),
+                numbers(|to| stoerwjok_write(&bytes, no_bytes, 0, to)),
             ),
         ]
     };
     for (call, expected, given) in replies {
-        let difference = differs(given == expected, &given);
-        totals.add("null pointers", call, &Reply::of(expected), difference);
+        let difference = differs(given == Numbers::from(expected.numbers()), &given);
+        totals.add("null pointers", call, &expected, difference);
     }
-    let buffers = (plan, table, numbers);
-    let same = buffers == ([2, 1], [0; 16], NO_ROOM.numbers()) && room == bytes;
-    if !same {
+    let buffers = (plan, table, room);
+    if buffers != ([7; 2], [0; 16], [0; ROOM_BYTES]) {
         totals
             .differences
             .push(format!("null pointers: {buffers:?}"));
@@ -494,41 +478,40 @@ fn check(random: &mut Random, totals: &mut Totals, kind: &str, text: &[u8], subj
 }
 
 fn read(random: &mut Random, totals: &mut Totals, kind: &str, text: &[u8]) {
-    let length = match random.one_in(6) {
-        true => random.pick(&[0, 1, 227, 229, 256]),
-        false => ROOM_BYTES,
-    };
-    let (expected, written) = reference::read(text, length);
-    let mut room = Lent::new(length, || random.byte());
-    let to = room.lend();
+    let (expected, written) = reference::read(text);
+    let mut room = Lent::new(ROOM_BYTES, || random.byte());
+    let to = room.lend_array();
     let reply = replied(random, &expected, |way| match way {
-        Way::Wrapper if length == ROOM_BYTES => {
+        Way::Wrapper => {
             let reading = stoerwjok::read(text);
             let room = match reading {
                 Reading::Good(room) => room,
                 Reading::Text { .. } => Room::default(),
             };
-            to.copy_from_slice(&room.to_bytes());
+            *to = room.to_bytes();
             reading.numbers()
         }
-        Way::Wrapper => numbers(|numbers| lent::read(text, to, numbers)),
         Way::Exported(numbers) => returned(lent::read(text, to, numbers)),
     });
-    let call = || format!("read \"{}\" to {length}", text.escape_ascii());
+    let call = || format!("read \"{}\"", text.escape_ascii());
     let buffers = [("room", room.holds(&written))];
     let difference = difference(call, &expected, reply, &buffers);
     totals.add(kind, "read", &expected, difference);
 }
 
-fn write(random: &mut Random, totals: &mut Totals, kind: &str, bytes: &[u8], buffer: usize) {
+fn write(
+    random: &mut Random,
+    totals: &mut Totals,
+    kind: &str,
+    bytes: &[u8; ROOM_BYTES],
+    buffer: usize,
+) {
     let (expected, written) = reference::write(bytes, buffer);
     let mut text = Lent::new(buffer, || random.byte());
     let to = text.lend();
-    let room = <&[u8; ROOM_BYTES]>::try_from(bytes).map(Room::from_bytes);
-    let reply = replied(random, &expected, |way| match (way, room) {
-        (Way::Wrapper, Ok(room)) => stoerwjok::write(&room, to).numbers(),
-        (Way::Wrapper, Err(_)) => numbers(|numbers| lent::write(bytes, to, numbers)),
-        (Way::Exported(numbers), _) => returned(lent::write(bytes, to, numbers)),
+    let reply = replied(random, &expected, |way| match way {
+        Way::Wrapper => stoerwjok::write(&Room::from_bytes(bytes), to).numbers(),
+        Way::Exported(numbers) => returned(lent::write(bytes, to, numbers)),
     });
     let call = || format!("write {bytes:?} to {buffer}");
     let buffers = [("text", text.holds(&written))];

@@ -1,7 +1,7 @@
 //! Rooms, texts and pasts from a seed.
 
 use crate::reference::configurations::Explored;
-use crate::reference::{first_and_multiple, text, Job, Link, Room, Section, Subject};
+use crate::reference::{first_and_multiple, text, Job, Link, Room, Section, Subject, ROOM_BYTES};
 
 /// Xorshift.
 pub struct Random(u64);
@@ -319,9 +319,9 @@ fn spoil_periods(random: &mut Random, room: &mut Room) {
 }
 
 /// The bytes of a room, with anything in unused entries and now and then any stated numbers.
-pub fn bytes(random: &mut Random, room: &Room) -> Vec<u8> {
+pub fn bytes(random: &mut Random, room: &Room) -> [u8; ROOM_BYTES] {
     let used = room.to_bytes();
-    let mut bytes = used.to_vec();
+    let mut bytes = used;
     if random.one_in(2) {
         for (from, to, size, number) in [(4, 68, 4, 1), (68, 196, 4, 2), (196, 228, 2, 3)] {
             let unused = (from + size * usize::from(used[number])).min(to);
@@ -336,10 +336,6 @@ pub fn bytes(random: &mut Random, room: &Room) -> Vec<u8> {
         bytes.fill_with(|| random.byte());
         bytes[0] = random.pick(&[0, 1, 2, 9]);
         bytes[1] = random.pick(&[0, 1, 16, 17]);
-    }
-    if random.one_in(10) {
-        let length = random.pick(&[0, 1, 227, 228, 229, 300]);
-        bytes.resize(length, 0xa5);
     }
     bytes
 }

@@ -37,15 +37,6 @@ pub struct Reply {
     pub cycle: u64,
 }
 
-/// What the reader and the writer answer where the buffer of a room is too short. The paper does not say: its rooms are whole.
-pub const NO_ROOM: Reply = Reply {
-    code: SHORT,
-    count: 0,
-    place: ROOM_BYTES as u64,
-    prefix: 0,
-    cycle: 0,
-};
-
 impl Reply {
     pub fn of(code: u64) -> Reply {
         Reply {
@@ -105,7 +96,7 @@ pub struct Room {
 }
 
 impl Room {
-    pub fn from_bytes(bytes: &[u8]) -> Room {
+    pub fn from_bytes(bytes: &[u8; ROOM_BYTES]) -> Room {
         let number = |at: usize| usize::from(bytes[at]);
         let mut room = Room {
             engines: number(0),
@@ -298,10 +289,7 @@ fn shortest_outside(room: &Room, explored: &Explored, past: &[u16]) -> Option<us
 }
 
 /// The writer's reply and what the text buffer then holds from its start.
-pub fn write(room: &[u8], buffer: usize) -> (Reply, Vec<u8>) {
-    if room.len() < ROOM_BYTES {
-        return (NO_ROOM, Vec::new());
-    }
+pub fn write(room: &[u8; ROOM_BYTES], buffer: usize) -> (Reply, Vec<u8>) {
     let room = Room::from_bytes(room);
     let refusal = check(&room);
     if refusal.code != GOOD {
@@ -314,12 +302,10 @@ pub fn write(room: &[u8], buffer: usize) -> (Reply, Vec<u8>) {
     (Reply::at(GOOD, text.len()), text)
 }
 
-/// The reader's reply and what the room buffer then holds from its start.
-pub fn read(bytes: &[u8], buffer: usize) -> (Reply, Vec<u8>) {
+/// The reader's reply and the bytes of its room.
+pub fn read(bytes: &[u8]) -> (Reply, [u8; ROOM_BYTES]) {
     match text::read(bytes) {
-        Err(line) if buffer < ROOM_BYTES => (Reply::at(TEXT, line), Vec::new()),
-        Err(line) => (Reply::at(TEXT, line), vec![0; ROOM_BYTES]),
-        Ok(_) if buffer < ROOM_BYTES => (NO_ROOM, Vec::new()),
-        Ok(room) => (Reply::of(GOOD), room.to_bytes().to_vec()),
+        Err(line) => (Reply::at(TEXT, line), [0; ROOM_BYTES]),
+        Ok(room) => (Reply::of(GOOD), room.to_bytes()),
     }
 }
