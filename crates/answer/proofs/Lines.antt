@@ -12,14 +12,13 @@ use native.Mathlib.Omega.{arith}
 use native.Mathlib.Nat.{zero-add}
 use native.Mathlib.Numerals.{add-one}
 use mathlib.Core.Path.{_≡_, refl, sym, ap, subst, _∙_}
-use mathlib.Core.Logic.{_≢_, _↔_, ⊎-elim}
+use mathlib.Core.Logic.{_≢_, _↔_}
 use mathlib.Core.Bool.{Bool, true, false, cond}
 use mathlib.Core.List.{List, [], _∷_, _++_, map, flatten, append-assoc, append-nil}
 use lib.ListN.{length, take, drop, getD, length-append}
 use borrow.Author.Tests.{ne-eqb}
 use lib.Dec.{T, eqb, leb, leb→le, le→leb}
 use lib.Seq.{take-suc, length-take-le}
-use Rattle.laws.proofs.Tests.{lt-or-le}
 use Rattle.paper.specs.declared.Room.{Room}
 use Rattle.paper.specs.declared.Numbers.{Numbers}
 use Rattle.paper.specs.declared.Undecided.{Undecided}

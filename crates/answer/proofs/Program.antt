@@ -2,9 +2,9 @@
 --   answer-fits           the lines of every answer have at most 10,784 bytes
 --   text-answered         so a text is answered in buffers of the program's sizes
 --   text-within           and the bytes of the answer lie in theirs
+--   program-one           one answer
 --   input-answered        an input is answered by a buffer of its first 649 bytes
 --   input-within          and the bytes of that answer lie in theirs
---   program-one           one answer
 --   program-never-short   it is never SHORT
 use Prim.Native.Nat.{ℕ, _≤_, _<_}
 use native.Mathlib.Omega.{arith}
@@ -23,8 +23,7 @@ use Rattle.paper.specs.declared.Planned.{Planned}
 use Rattle.paper.specs.declared.Planned.the-variants as planned
 use Rattle.paper.specs.Reply.{refusalNumbers, undecidedNumbers, plannedNumbers, W, written, PlanShort, PlanReply}
 use Rattle.paper.specs.Answer.{programSlots}
-use Rattle.paper.proofs.Uniques.{plan-feasible}
-use Rattle.paper.proofs.Uniques as uniques
+use Rattle.paper.proofs.Uniques.{plan-feasible, plan-one as room-plan-one}
 use Rattle.paper.proofs.Plans.{plan-exists}
 use Rattle.answer.specs.Calls.{PlanOfText, broken, good}
 use Rattle.answer.specs.Lines.{planSlots, printed, Answered, programTable, programPlan, TextAnswered, InputAnswered}
@@ -77,7 +76,7 @@ short-buffer {room} x =
     let d = x .decided in
     let c = d .count in
     let y = plan-exists (d .limits) (c .clock) (c .counted) (plan-feasible (x .is)) in
-    let e = uniques.plan-one (x .is) (record { times = c .times; clock = c .clock; plan = y .3 }) in
+    let e = room-plan-one (x .is) (record { times = c .times; clock = c .clock; plan = y .3 }) in
     omega (arith, x .short, d .fits, ap length (e .0), y .2)
 
 refusal-code : (r : Refusal) → refusalNumbers r .code < 11

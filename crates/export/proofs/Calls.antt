@@ -4,7 +4,6 @@
 use Prim.Native.Nat.{ℕ}
 use mathlib.Core.Path.{_≡_, sym, ap, _∙_, subst}
 use mathlib.Core.List.{List}
-use Rattle.paper.specs.declared.Room.{Room}
 use Rattle.paper.specs.declared.Numbers.{Numbers}
 use Rattle.paper.specs.Reply.{readingNumbers}
 use Rattle.paper.proofs.Replies.{read-reply-one, write-reply-one}

@@ -45,6 +45,7 @@ pub record ByteAt (room : Room) (k x : ℕ) : Type 0 where
   pub section : (q d : ℕ) → q < 32 → d < 4 → k ≡ 68 + 4 * q + d → x ≡ getD (sectionBytes (section room q)) d 0
   pub link : (q d : ℕ) → q < 16 → d < 2 → k ≡ 196 + 2 * q + d → x ≡ getD (linkBytes (link room q)) d 0
 
+-- all bytes of a room, and no more
 pub record Holds (bytes : List ℕ) (room : Room) : Type 0 where
   pub long : length bytes ≡ size
   pub byte : (k : ℕ) → k < size → ByteAt room k (getD bytes k 0)
@@ -58,6 +59,7 @@ sectionAt bytes at = record { job = getD bytes at 0; block = getD bytes (at + 1)
 abbrev pub linkAt : List ℕ → ℕ → Link
 linkAt bytes at = record { sender = getD bytes at 0; receiver = getD bytes (at + 1) 0 }
 
+-- the counts, and each entry as it stands at its place
 abbrev pub roomOf : List ℕ → Room
 roomOf bytes = record {
   engines = getD bytes 0 0;
