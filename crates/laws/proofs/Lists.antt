@@ -250,6 +250,7 @@ module _ {A : Type 0} where
 
 pub in_flat_map : {A B : Type 0} (f : A → List B) {a : A} {b : B} (l : List A) → a ∈ l → b ∈ f a → b ∈ flat_map f l
 unfolding flat_map
+in_flat_map f [] p q = elim p [ ]
 in_flat_map f {b = b} (x ∷ l) (Memᴰ.head e) q = Memᴰ.append_left (flat_map f l) (subst (λ y. b ∈ f y) e q)
 in_flat_map f (x ∷ l) (Memᴰ.tail p) q = Memᴰ.append_right (f x) (in_flat_map f l p q)
 

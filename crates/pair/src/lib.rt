@@ -11,7 +11,7 @@ const FOUND: u64 = 0x5555555555555555;
 const UNPLANNED: u16 = 0xffff;
 
 // The numbers of the second planner's reply, or that the room is too large for it.
-#[derive(Drop)]
+#[derive(Clone, Copy)]
 pub enum Second {
     Known(Numbers),
     TooLarge,
@@ -19,7 +19,7 @@ pub enum Second {
 
 // The numbers of the planner's reply, what the second planner says, and whether all that was compared is equal. Where the room is too
 // large for the second planner nothing is compared.
-#[derive(Drop)]
+#[derive(Clone, Copy)]
 pub struct Compared {
     pub first: Numbers,
     pub second: Second,

@@ -46,10 +46,10 @@ pub data Reads (j : Job) : ℕ → ℕ → ℕ → List Bool → Type 0 where
 reads_front : {j : Job} {c e g : ℕ} {u : List Bool} → Reads j c e g u → (w v : List Bool) → u ≡ w ++ v → Reads j c e g w
 reads_front x [] v q = stop
 reads_front stop (b ∷ w) v q = absurd (omega (arith, ap length q))
-reads_front (step {b = b'} {w = u} t x) (b ∷ w) v q =
+reads_front {j = j} (step {c = c} {e = e} {g = g} {c' = c'} {e' = e'} {g' = g'} {b = b'} {w = u} t x) (b ∷ w) v q =
     let head : b ≡ b' = cc in
     let tail : u ≡ w ++ v = cc in
-    rw head (step t (reads_front x w v tail))
+    rw head (step t (reads_front {c = c'} x w v tail))
 reads_front (restart x) (b ∷ w) v q = restart (reads_front x (b ∷ w) v q)
 
 -- ---- The automaton and the language

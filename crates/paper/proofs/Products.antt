@@ -60,7 +60,7 @@ value_letter false = refl
 module _ (n m : ℕ) (b : Bool) (h : m < 2 ^ n) where
   vector_lt : vector n m b < 2 ^ suc n
   unfolding value
-  vector_lt = elim b [ true ↦ omega (arith, pow-suc 2 n) | false ↦ omega (arith, pow-suc 2 n) ]
+  vector_lt = elim b as (λ k. vector n m k < 2 ^ suc n) [ true ↦ omega (arith, pow-suc 2 n) | false ↦ omega (arith, pow-suc 2 n) ]
 
   vector_last : letter n (vector n m b) ≡ b
   unfolding bit

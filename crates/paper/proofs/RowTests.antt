@@ -236,7 +236,10 @@ unfolding row_test
 row_meets (planning room reply masks) t = let p = T_and _ _ t in plan_meets room _ masks reply p.0 p.1
 row_meets (judging room past reply) t = let p = T_and _ _ t in judge_meets room _ past reply p.0 p.1
 
-pub table_meets : {l : List Row} → T (table_test l) → (r : Row) → r ∈ l → Meets r
+member_meets : (r : Row) {l : List Row} → r ∈ l → T (table_test l) → Meets r
 unfolding table_test
-table_meets t r (head {x = x} e) = subst Meets (sym e) (row_meets x (T_and _ _ t).0)
-table_meets t r (tail p) = table_meets (T_and _ _ t).1 r p
+member_meets r (head {x = x} e) t = subst Meets (sym e) (row_meets x (T_and _ _ t).0)
+member_meets r (tail p) t = member_meets r p (T_and _ _ t).1
+
+pub table_meets : {l : List Row} → T (table_test l) → (r : Row) → r ∈ l → Meets r
+table_meets t r p = member_meets r p t

@@ -3,7 +3,7 @@ use answer::{INPUT, LINES};
 use libc::{STDIN_FILENO, STDOUT_FILENO};
 
 // What reading ends with: so many bytes at the start of the buffer, or an error.
-#[derive(Drop)]
+#[derive(Clone, Copy)]
 enum Input {
     Bytes(usize),
     Failed,

@@ -12,14 +12,14 @@ use paper::{Checked, Judged, Planned, Room, Times, Undecided};
 const MOST: usize = 4194304;
 
 // Whether a room may be explored in a table, or why it stays undecided.
-#[derive(Drop)]
+#[derive(Clone, Copy)]
 enum Admission {
     Admitted,
     Undecided(Undecided),
 }
 
 // A decided room: its times, the table's capacity and the count; or why it stays undecided.
-#[derive(Drop)]
+#[derive(Clone, Copy)]
 enum Decision {
     Decided { times: Times, w: usize, n: usize },
     Undecided(Undecided),

@@ -1,7 +1,7 @@
 // A line of output, put together word by word and then written at once.
 
 // The first `length` bytes are the line so far.
-#[derive(Drop)]
+#[derive(Clone, Copy)]
 pub struct Line {
     pub bytes: [u8; 256],
     pub length: usize,

@@ -4,14 +4,14 @@ use super::numbers::{with_code, with_reply, with_second};
 use pair::{Compared, Second};
 
 // How often each code came, and a room that was too large for the second planner.
-#[derive(Drop)]
+#[derive(Clone, Copy)]
 pub struct Counts {
     pub codes: [u64; 13],
     pub too_large: u64,
 }
 
 // What became of the plans and of the pasts, and the number of differences.
-#[derive(Drop)]
+#[derive(Clone, Copy)]
 pub struct Tally {
     pub plans: Counts,
     pub pasts: Counts,

@@ -18,21 +18,21 @@ use room::{bad_job, bad_link, bad_section, clock_of, long_job};
 use walk::{copy_plan, first_outside, follow};
 
 // The plan of a room, or that it has more configurations than this planner knows.
-#[derive(Drop)]
+#[derive(Clone, Copy)]
 pub enum PlanAnswer {
     Known(Planned),
     TooLarge,
 }
 
 // The verdict on a past, or that its room has more configurations than this planner knows.
-#[derive(Drop)]
+#[derive(Clone, Copy)]
 pub enum PastAnswer {
     Known(Judged),
     TooLarge,
 }
 
 // The count of a room whose configurations are found; why it stays undecided; or that there are more than this planner knows.
-#[derive(Drop)]
+#[derive(Clone, Copy)]
 enum Decision {
     Decided(usize),
     Undecided(Undecided),

@@ -168,7 +168,7 @@ fn greatest_first(room: Room) -> u8 {
 }
 
 // The time positions are 0 to `last`, R + H - 1, and after `last` comes `back`, R.
-#[derive(Drop)]
+#[derive(Clone, Copy)]
 pub struct Clock {
     pub back: u16,
     pub last: u16,
