@@ -1,4 +1,6 @@
 // The answer to a room text: the numbers of the planner's reply, and the lines that the program prints for it.
+#![tactic(auto)]
+
 ghost use Rattle.std.specs.Prelude.{◌+◌, ◌*◌, ◌≤◌, ◌≡◌, ◌↔◌, length, take, T};
 ghost use mathlib.Core.List.{map, flatten};
 ghost use Rattle.paper.specs.Text.{line};

@@ -1,5 +1,7 @@
 // Answers the room texts on standard input as the program does. A text ends at a `=`, and the rest of that line says what it is.
 // Printed are that line and the answer: all of it, or of a long one the first line, how many bytes it has and a sum of them.
+#![tactic(auto)]
+
 ghost use Rattle.std.specs.Prelude.{◌≤◌, length};
 
 use answer::LINES;

@@ -1,4 +1,6 @@
 // Lowercase hexadecimal, two digits a byte, in lines closed by byte 0a: read from a text and put into a buffer.
+#![tactic(auto)]
+
 ghost use Rattle.std.specs.Prelude.{◌+◌, ◌*◌, ◌≤◌, ◌<◌, ◌≡◌, ◌↔◌, [], ◌∷◌, length, T};
 ghost use Rattle.paper.specs.Text.{digit, two_digits, line, ending};
 ghost use Rattle.digits.specs.Digits.{DigitValue, ByteAt, Stands, Puts};

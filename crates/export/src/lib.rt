@@ -1,4 +1,6 @@
 // The calls for C and Rust. A room comes as its text, or as its 228 bytes; a reply goes back as its code and as five numbers.
+#![tactic(auto)]
+
 ghost use Rattle.std.specs.Prelude.{◌+◌, ◌*◌, ◌<◌, ◌≡◌};
 ghost use Rattle.laws.specs.Lists.{row};
 ghost use Rattle.answer.specs.Calls.{CheckOfText, PlanOfText, JudgeOfText};

@@ -1,4 +1,6 @@
 // Masks of sixteen jobs: their bits, and masks made from others. They know no room.
+#![tactic(auto)]
+
 ghost use Rattle.std.specs.Prelude.{◌^◌, ◌<◌, ◌≡◌, cond};
 ghost use Rattle.std.specs.Int.Bits.{bit_or};
 ghost use Rattle.laws.specs.Bits.{bit};

@@ -1,4 +1,6 @@
 // The planner and the second planner on one room: replies and buffers compared.
+#![tactic(auto)]
+
 ghost use Rattle.std.specs.Prelude.{ℕ, ◌<◌, ◌≡◌, length, get_or, replicate, T};
 ghost use Rattle.pair.specs.Same.{Agree};
 

@@ -1,4 +1,6 @@
 // Reads a room text on standard input and prints the answer.
+#![tactic(auto)]
+
 use answer::{INPUT, LINES};
 use libc::{STDIN_FILENO, STDOUT_FILENO};
 

@@ -1,4 +1,6 @@
 // The public calls: check a room, plan it, judge a past.
+#![tactic(auto)]
+
 ghost use Rattle.std.specs.Prelude.{◌≡◌};
 ghost use Rattle.paper.specs.Reply.{zeros, CheckReply, PlanReply, JudgeReply};
 ghost use Rattle.follow.specs.Pasts.{Given};

@@ -1,4 +1,6 @@
 // The numbers of each call's answer, as the paper tells them.
+#![tactic(auto)]
+
 ghost use Rattle.paper.specs.Reply.{refusal_numbers, undecided_numbers, checked_numbers, planned_numbers, judged_numbers, reading_numbers, writing_numbers};
 ghost use Rattle.reply.specs.Numbers.{SameNumbers};
 

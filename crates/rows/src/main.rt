@@ -1,6 +1,8 @@
 // Runs the paper's rows, and then rooms and pasts made by a fixed generator, through the planner and
 // the second planner. It writes each row's name and reply, every difference, and how often each reply
 // came.
+#![tactic(auto)]
+
 mod line; // a line of output
 mod numbers; // replies in words
 mod tally; // how often each reply came

@@ -3,6 +3,8 @@
 // list that is searched from its front; the centre is what is left when looking for lost
 // configurations finds no more. Proved safe and ending; no contract says that its answers are right.
 // It knows at most 512 configurations.
+#![tactic(auto)]
+
 use paper::{Checked, Judged, Planned, Refusal, Room, Undecided};
 
 mod room; // a room: its entries, the ranges of each part, R and H

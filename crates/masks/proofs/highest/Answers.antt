@@ -9,7 +9,7 @@ use Rattle.masks.proofs.highest.Goals as goal
 use Rattle.masks.proofs.highest.Goals.{Start}
 
 place : (c : Start) → let i = bit_xor (count_leading_zeros 16 c.args.m) 15 in (i < 16) × Highest c.args.m i
-place c =     let m = c.args.m in
+place c = let m = c.args.m in
     let t = leading_top 16 m c.requires c.ranges.m.fits in
     rw (xor_ones (count_leading_zeros 16 m) 4 (omega arith)) (omega arith, leading_highest 16 m c.requires c.ranges.m.fits)
 

@@ -8,7 +8,7 @@ use Rattle.masks.proofs.lowest.Goals as goal
 use Rattle.masks.proofs.lowest.Goals.{Start}
 
 place : (c : Start) → let i = count_trailing_zeros 16 c.args.m in (i < 16) × Lowest c.args.m i
-place c =     let low = trailing_lowest 16 c.args.m c.requires c.ranges.m.fits in
+place c = let low = trailing_lowest 16 c.args.m c.requires c.ranges.m.fits in
     (bit_place c.args.m 16 _ c.ranges.m.fits low.set, low)
 
 pub overflow_cast-result : goal.overflow_cast-result
