@@ -2,10 +2,11 @@
 // Printed are that line and the answer: all of it, or of a long one the first line, how many bytes it has and a sum of them.
 #![tactic(auto)]
 
-ghost use Rattle.std.specs.Prelude.{◌≤◌, length};
+ghost use Rattle.std.specs.Prelude.{◌≤◌, IfOk, length};
 
 use answer::LINES;
-use libc::{STDIN_FILENO, STDOUT_FILENO};
+use std::io;
+use std::io::{Read, Stdin, Stdout, Write};
 
 // The bytes of the first line of an answer.
 const FIRST: usize = 29;
@@ -13,24 +14,45 @@ const FIRST: usize = 29;
 // The longest answer that is printed whole.
 const SHOWN: usize = 100;
 
+// The bytes that are read.
+const ALL: usize = 8192;
+
 // Reads all texts, and answers them.
-fn main() {
-    let mut texts = [0u8; 8192];
-    let n = io::read_full(STDIN_FILENO, &mut texts[..]);
-    answer_all(&texts[..n]);
+fn main(rt: HostRuntime) -> io::Result<()> {
+    let mut texts = [0u8; ALL];
+    let n = read_all(rt.stdin(), &mut texts)?;
+    answer_all(rt.stdout(), &texts[..n])
+}
+
+// Reads until the buffer is full or the input ends, and gives how many bytes were read.
+fn read_all(input: Stdin, texts: &mut [u8; ALL]) -> io::Result<usize>
+    ensures { IfOk result (λ n. n ≤ ALL) }
+{
+    let mut input = input;
+    let mut done: usize = 0;
+    while done < ALL {
+        let more = input.read(&mut texts[done..])?;
+        if more == 0 {
+            return Ok(done);
+        }
+        done += more;
+    }
+    Ok(done)
 }
 
 // Prints the answer to each text.
-fn answer_all(texts: &[u8]) {
+fn answer_all(out: Stdout, texts: &[u8]) -> io::Result<()> {
+    let mut out = out;
     let mut at: usize = 0;
     while at < texts.len() {
         let end = place_of(b'=', texts, at);
         let line = place_of(b'\n', texts, end);
-        io::write_all(STDOUT_FILENO, &texts[end..line]);
-        io::write_all(STDOUT_FILENO, b"\n");
-        print_answer(&texts[at..end]);
+        out.write_all(&texts[end..line])?;
+        out.write_all(b"\n")?;
+        print_answer(out, &texts[at..end])?;
         at = line + 1;
     }
+    Ok(())
 }
 
 // The first place from `at` on that has a byte; the length if none has.
@@ -49,28 +71,28 @@ fn place_of(byte: u8, texts: &[u8], at: usize) -> usize
 }
 
 // Prints the answer to a text.
-fn print_answer(text: &[u8]) {
+fn print_answer(out: Stdout, text: &[u8]) -> io::Result<()> {
     let mut lines = [0u8; LINES];
     let n = answer::answer_text(text, &mut lines);
-    show(&lines[..n]);
+    show(out, &lines[..n])
 }
 
 // Prints an answer, or what a long one begins with, its length and a sum of it.
-fn show(lines: &[u8]) {
+fn show(out: Stdout, lines: &[u8]) -> io::Result<()> {
+    let mut out = out;
     if lines.len() <= SHOWN {
-        io::write_all(STDOUT_FILENO, lines);
-        return;
+        return out.write_all(lines);
     }
-    io::write_all(STDOUT_FILENO, &lines[0..FIRST]);
-    print_number(lines.len() as u64);
+    out.write_all(&lines[0..FIRST])?;
+    print_number(out, lines.len() as u64)?;
     let sum = sum_of(lines);
-    print_number(sum);
+    print_number(out, sum)
 }
 
 // Prints a number and the end of a line.
-fn print_number(n: u64) {
-    io::print_decimal(STDOUT_FILENO, n);
-    io::write_all(STDOUT_FILENO, b"\n");
+fn print_number(out: Stdout, n: u64) -> io::Result<()> {
+    let mut out = out;
+    writeln!(out, "{n}")
 }
 
 // A sum of bytes that tells their order.

@@ -1,46 +1,39 @@
 // Reads a room text on standard input and prints the answer.
 #![tactic(auto)]
 
+ghost use Rattle.std.specs.Prelude.{◌≤◌, IfOk};
+
 use answer::{INPUT, LINES};
-use libc::{STDIN_FILENO, STDOUT_FILENO};
+use std::io;
+use std::io::{Read, Stdin, Stdout, Write};
 
-// What reading ends with: so many bytes at the start of the buffer, or an error.
-#[derive(Clone, Copy)]
-enum Input {
-    Bytes(usize),
-    Failed,
-}
-
-// Reads the input, and prints its answer; nothing where a read fails.
-fn main() {
+// Reads the input, and prints its answer. Where a read fails nothing is printed, and the program ends with the error.
+fn main(rt: HostRuntime) -> io::Result<()> {
     let mut text = [0u8; INPUT];
-    let input = read_input(&mut text[..]);
-    match input {
-        Input::Bytes(n) => print_answer(text, n),
-        Input::Failed => {}
-    }
+    let read = read_input(rt.stdin(), &mut text)?;
+    print_answer(rt.stdout(), text, read)
 }
 
-// Reads until the buffer is full or the input ends, in whatever pieces it comes.
-fn read_input(text: &mut [u8]) -> Input {
+// Reads until the buffer is full or the input ends, in whatever pieces it comes, and gives how many bytes were read.
+fn read_input(input: Stdin, text: &mut [u8; INPUT]) -> io::Result<usize>
+    ensures { IfOk result (λ n. n ≤ INPUT) }
+{
+    let mut input = input;
     let mut done: usize = 0;
-    while done < text.len() {
-        let got = libc::read(STDIN_FILENO, &mut text[done..]);
-        if got < 0 {
-            return Input::Failed;
-        }
-        let more = io::count(got, &text[done..]);
+    while done < INPUT {
+        let more = input.read(&mut text[done..])?;
         if more == 0 {
-            return Input::Bytes(done);
+            return Ok(done);
         }
         done += more;
     }
-    Input::Bytes(done)
+    Ok(done)
 }
 
 // Prints the answer to an input of which so many bytes were read.
-fn print_answer(text: [u8; INPUT], read: usize) {
+fn print_answer(out: Stdout, text: [u8; INPUT], read: usize) -> io::Result<()> {
+    let mut out = out;
     let mut lines = [0u8; LINES];
     let n = answer::answer_input(text, read, &mut lines);
-    io::write_all(STDOUT_FILENO, &lines[..n]);
+    out.write_all(&lines[..n])
 }

@@ -12,7 +12,7 @@ fn mixed(x: u64) -> u64 {
 
 // The seed of a part.
 pub fn seed_of(seed: u64, part: u64) -> u64 {
-    mixed(std::num::wrapping_add_u64(mixed(seed), part))
+    mixed(mixed(seed).wrapping_add(part))
 }
 
 // A byte for a part.

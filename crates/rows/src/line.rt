@@ -1,5 +1,8 @@
 // A line of output, put together word by word and then written at once.
 
+use std::io;
+use std::io::{Stdout, Write};
+
 // The first `length` bytes are the line so far.
 #[derive(Clone, Copy)]
 pub struct Line {
@@ -40,22 +43,23 @@ pub fn with_words(line: Line, words: &[u8]) -> Line {
 
 // The line with a word more, and after a space a number.
 pub fn with_number(line: Line, word: &[u8], n: u64) -> Line {
-    let mut digits = [0u8; 20];
-    let k = io::decimal(n, &mut digits);
+    let mut digits = itoa::Buffer::new();
     let next = with_words(with_words(line, word), b" ");
-    with_words(next, &digits[..k])
+    with_words(next, digits.format(n).as_bytes())
 }
 
 // Writes the first n of the bytes to standard output.
-fn write_first(bytes: [u8; 256], n: usize) {
+fn write_first(out: Stdout, bytes: [u8; 256], n: usize) -> io::Result<()> {
+    let mut out = out;
     if n <= 256 {
-        io::write_all(1, &bytes[..n]);
+        out.write_all(&bytes[..n])?;
     }
+    Ok(())
 }
 
 // Writes the line and its end.
-pub fn write_line(line: Line) {
+pub fn write_line(out: Stdout, line: Line) -> io::Result<()> {
     let closed = with_byte(line, b'\n');
     let bytes = closed.bytes;
-    write_first(bytes, closed.length);
+    write_first(out, bytes, closed.length)
 }

@@ -13,10 +13,12 @@ mod pasts; // pasts made from them
 mod trial; // a made room and its pasts through both planners
 
 use hand::all_rows;
+use std::io;
 use tally::{no_tally, write_tally};
 use trial::all_rooms;
 
-fn main() {
-    let tally = all_rows(no_tally());
-    write_tally(all_rooms(tally));
+fn main(rt: HostRuntime) -> io::Result<()> {
+    let out = rt.stdout();
+    let tally = all_rows(out, no_tally())?;
+    write_tally(out, all_rooms(out, tally)?)
 }

@@ -11,7 +11,7 @@ fn turned(prefix: usize, cycle: usize, slot: usize) -> usize {
     if cycle == 0 {
         return slot;
     }
-    std::num::wrapping_add_usize(prefix, (slot - prefix) % cycle)
+    prefix.wrapping_add((slot - prefix) % cycle)
 }
 
 // The mask that a plan has in a slot; where the buffer has no such slot, no job runs.

@@ -2,6 +2,8 @@
 use super::line::{Line, no_line, with_number, with_words, write_line};
 use super::numbers::{with_code, with_reply, with_second};
 use pair::{Compared, Second};
+use std::io;
+use std::io::Stdout;
 
 // How often each code came, and a room that was too large for the second planner.
 #[derive(Clone, Copy)]
@@ -40,7 +42,7 @@ fn one_code_more(codes: [u64; 13], code: u8) -> [u64; 13] {
     let mut next = codes;
     let at = code as usize;
     if at < 13 {
-        next[at] = std::num::wrapping_add_u64(codes[at], 1);
+        next[at] = codes[at].wrapping_add(1);
     }
     next
 }
@@ -57,28 +59,36 @@ fn one_more(counts: Counts, both: Compared) -> Counts {
         },
         Second::TooLarge => Counts {
             codes,
-            too_large: std::num::wrapping_add_u64(counts.too_large, 1),
+            too_large: counts.too_large.wrapping_add(1),
         },
     }
 }
 
 // The tally with a difference more where the two replies or their buffers differ; these are written
 // then, and before them what was asked.
-pub fn with_difference(tally: Tally, asked: Line, both: Compared) -> Tally {
+pub fn with_difference(
+    out: Stdout,
+    tally: Tally,
+    asked: Line,
+    both: Compared,
+) -> io::Result<Tally> {
     if both.same {
-        return tally;
+        return Ok(tally);
     }
     let first = both.first;
     let second = both.second;
     let line = with_reply(with_words(asked, b": difference: planner"), first);
-    write_line(with_second(with_words(line, b"; second planner"), second));
+    write_line(
+        out,
+        with_second(with_words(line, b"; second planner"), second),
+    )?;
     let mut next = tally;
-    next.differences = std::num::wrapping_add_u64(tally.differences, 1);
-    next
+    next.differences = tally.differences.wrapping_add(1);
+    Ok(next)
 }
 
 // The tally with the plan of room number n more.
-pub fn with_plan(tally: Tally, n: u64, both: Compared) -> Tally {
+pub fn with_plan(out: Stdout, tally: Tally, n: u64, both: Compared) -> io::Result<Tally> {
     let plans = one_more(tally.plans, both);
     let pasts = tally.pasts;
     let next = Tally {
@@ -86,11 +96,11 @@ pub fn with_plan(tally: Tally, n: u64, both: Compared) -> Tally {
         pasts,
         differences: tally.differences,
     };
-    with_difference(next, with_number(no_line(), b"plan of room", n), both)
+    with_difference(out, next, with_number(no_line(), b"plan of room", n), both)
 }
 
 // The tally with a past of room number n more.
-pub fn with_past(tally: Tally, n: u64, both: Compared) -> Tally {
+pub fn with_past(out: Stdout, tally: Tally, n: u64, both: Compared) -> io::Result<Tally> {
     let plans = tally.plans;
     let pasts = one_more(tally.pasts, both);
     let next = Tally {
@@ -98,7 +108,7 @@ pub fn with_past(tally: Tally, n: u64, both: Compared) -> Tally {
         pasts,
         differences: tally.differences,
     };
-    with_difference(next, with_number(no_line(), b"past of room", n), both)
+    with_difference(out, next, with_number(no_line(), b"past of room", n), both)
 }
 
 // The sum of the counts.
@@ -107,7 +117,7 @@ fn total(counts: Counts) -> u64 {
     let mut sum = counts.too_large;
     let mut code = 0;
     while code < 13 {
-        sum = std::num::wrapping_add_u64(sum, codes[code]);
+        sum = sum.wrapping_add(codes[code]);
         code += 1;
     }
     sum
@@ -138,8 +148,8 @@ fn with_counts(line: Line, what: &[u8], counts: Counts) -> Line {
 }
 
 // Writes the tally.
-pub fn write_tally(tally: Tally) {
+pub fn write_tally(out: Stdout, tally: Tally) -> io::Result<()> {
     let rooms = with_counts(no_line(), b"rooms", tally.plans);
     let both = with_counts(rooms, b"; pasts", tally.pasts);
-    write_line(with_number(both, b"; differences", tally.differences));
+    write_line(out, with_number(both, b"; differences", tally.differences))
 }
