@@ -10,14 +10,14 @@ fn main() {
     let folder = match env::var_os("STOERWJOK_LIB_DIR") {
         Some(folder) => PathBuf::from(folder),
         None => {
-            PathBuf::from(env::var_os("CARGO_MANIFEST_DIR").unwrap()).join("../target/staticlib")
+            PathBuf::from(env::var_os("CARGO_MANIFEST_DIR").unwrap()).join("../crates/export/out")
         }
     };
     let archive = folder.join("libexport.a");
     println!("cargo:rerun-if-changed={}", archive.display());
     if !archive.is_file() {
         eprintln!(
-            "{} is not there; run: rt staticlib export",
+            "{} is not there; run: rt lib export",
             archive.display()
         );
         exit(1);
