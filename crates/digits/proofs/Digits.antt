@@ -1,5 +1,6 @@
 -- Laws of digits at a place of a text: what the tests of the functions say of it.
 --   value_says                     the value of a digit, as the paper's laws have it, is what is promised
+--   digit_between                  no digit is between 9 and a
 --   byte_beyond, byte_first_none, byte_second_none, byte_found
 --                                  the byte at a place: the text ends before it, one of two bytes is no digit, both are
 --   byte_at_is                      it is the byte at that place of the paper's laws of lines
@@ -15,7 +16,7 @@ use lib.ListN.{length, get_or}
 use Rattle.laws.proofs.Tests.{lt_or_le}
 use Rattle.paper.specs.Text.{digit, two_digits, ending}
 use Rattle.paper.specs.Reading.{value, byte, byte_at, Ending}
-use Rattle.paper.proofs.Digits.{value_digit, digit_value, byte_first_bad, byte_second_bad, byte_yes, byte_digits, digits_byte}
+use Rattle.paper.proofs.Digits.{value_between, value_digit, digit_value, byte_first_bad, byte_second_bad, byte_yes, byte_digits, digits_byte}
 use Rattle.paper.proofs.Digits.{two_digits_length}
 use Rattle.paper.proofs.Lines.{byte_at_beyond, line_at_none, line_within, ending_within}
 use Rattle.digits.specs.Digits.{no_digit, no_byte, DigitValue, Stands, ByteAt}
@@ -28,6 +29,12 @@ value_says b e l = record {
   found = λ h. subst (λ (x : ℕ). digit x ≡ b) e (digit_value b (omega arith));
   none = λ n d h g. let f = sym (value_digit d h) ∙ ap value g in omega arith;
 }
+
+pub digit_between : (d : ℕ) → d < no_digit → 0x3a ≤ digit d → 0x61 ≤ digit d
+digit_between d l g = ⊎_elim
+    (λ (h : digit d < 0x61). absurd (omega (arith, value_digit d l, value_between (digit d) g h)))
+    (λ (h : 0x61 ≤ digit d). h)
+    (lt_or_le (digit d) 0x61)
 
 -- ---- Two digits
 

@@ -35,6 +35,7 @@ pub fn byte_at(text: &[u8], at: usize) -> u16
 }
 
 // The value of a lowercase hexadecimal digit; NO_DIGIT if the byte is none.
+#[tactic(auto, using(crate::proofs::Digits::digit_between))]
 pub fn value(b: u8) -> u8
     ensures { DigitValue b result }
 {

@@ -2,8 +2,9 @@
 --   holds, fails                    a verdict, from a test of its negation
 --   least_found, least_none         a search for the least bad entry ends at it, or finds none
 --   first_found, first_none         so does one where there may be too many of them,
---   first_many                      and one where there are
+--   first_many, many_links          and one where there are
 --   multiple_next                   the least common multiple with one more number
+--   next_long                       where that passes 4,096
 --   within_all, within_limits       where all jobs are within 4,096, H is their multiple; within the limits they are
 use Prim.Native.Nat.{ℕ, ◌+◌, ◌≤◌, ◌<◌, ◌%◌}
 use native.Mathlib.Omega.{arith}
@@ -17,8 +18,8 @@ use Rattle.laws.proofs.Loops.{through_all}
 use Rattle.laws.proofs.Tests.{T_of, lt_or_le}
 use Rattle.laws.proofs.Multiples.{least_more_times}
 use Rattle.paper.specs.declared.Room.{Room}
-use Rattle.paper.specs.Room.{Multiple, Limits}
-use Rattle.paper.specs.Reply.{LeastBad, FirstBad, many, one}
+use Rattle.paper.specs.Room.{EachJobFits, Multiple, Limits, GoodLink, link, period}
+use Rattle.paper.specs.Reply.{LeastBad, FirstBad, many, one, Passes}
 use Rattle.paper.proofs.Uniques.{passes_long}
 use Rattle.room.specs.Checks.{Verdict, Search, LeastMultiple, JobsWithin}
 
@@ -51,11 +52,26 @@ module _ {Fine : ℕ → Type 0} {n i : ℕ} (t : Through Fine n i) where
 pub first_many : {Fine : ℕ → Type 0} {n most : ℕ} → most < n → Search (FirstBad Fine n most) ((n ≤ most) × ((k : ℕ) → k < n → Fine k)) n most
 first_many l = record { found = λ _. many l refl; none = λ g. absurd (omega arith) }
 
+pub many_links : {room : Room} → 16 < room.links → FirstBad (λ k. GoodLink room (link room k)) room.links 16 16
+many_links l = many l refl
+
 -- ---- H
 
 pub multiple_next : {f : ℕ → ℕ} {n h m : ℕ} → LeastCommon f n h → LeastMultiple h (f n) m → LeastCommon f (n + 1) m
 multiple_next {f} {n} {h} {m} a l =
     rw l.same (least_more_times a l.times l.some (subst (λ (x : ℕ). x % f n ≡ 0) l.same l.divided) l.least)
+
+pub next_long : {room : Room} {i h m : ℕ} → (EachJobFits room → Multiple room i h) → h ≤ 4096 → (0 < period room i → LeastMultiple h (period room i) m) → i < room.jobs → 4096 < m
+    → EachJobFits room → Passes room i
+next_long {room} {i} {h} {m} u s p l g good = record {
+  known = l;
+  h = h;
+  until = u good;
+  short = s;
+  h' = m;
+  with = let j = good i l in multiple_next (u good) (p (omega arith));
+  long = g;
+}
 
 module _ {room : Room} {i h : ℕ} (w : JobsWithin room i h) where
   pub within_all : room.jobs ≤ i → Multiple room room.jobs h

@@ -1,6 +1,6 @@
 -- `digits::value` meets its contract: each range of bytes has its value by the laws of digits.
 use native.Mathlib.Omega.{arith}
-use Rattle.paper.proofs.Digits.{value_under, value_low, value_between, value_high, value_over}
+use Rattle.paper.proofs.Digits.{value_under, value_low, value_high, value_over}
 use Rattle.digits.proofs.Digits.{value_says}
 use Rattle.digits.proofs.value.Goals as goal
 
@@ -10,11 +10,8 @@ returns-then-b-lt48 c = value_says _ (value_under _ c.if-b-lt48.true) (omega ari
 pub returns-then-b-le57 : goal.returns-then-b-le57
 returns-then-b-le57 c = value_says _ (value_low _ (omega arith) (omega arith)) (omega arith)
 
-pub returns-then-b-lt97 : goal.returns-then-b-lt97
-returns-then-b-lt97 c = value_says _ (value_between _ (omega arith) (omega arith)) (omega arith)
-
 pub returns-then-b-le102 : goal.returns-then-b-le102
-returns-then-b-le102 c = let h = value_high _ c.if-b-lt97.false (omega arith) in value_says _ (omega arith) (omega arith)
+returns-then-b-le102 c = let h = value_high c.args.b (omega arith) (omega arith) in value_says _ (omega arith) (omega arith)
 
 pub returns : goal.returns
 returns c = value_says _ (value_over _ (omega arith)) (omega arith)

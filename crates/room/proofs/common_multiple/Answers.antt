@@ -1,4 +1,4 @@
-use Prim.Native.Nat.{◌+◌, ◌-◌}
+use Prim.Native.Nat.{◌+◌}
 use native.Mathlib.Omega.{arith}
 use borrow.Author.Rules.{rules}
 use Rattle.laws.proofs.Multiples.{least_none}
@@ -17,23 +17,6 @@ next c good = let g = good c.loop-i.i c.loop-i-test.true in
 
 pub loop-i-init : goal.loop-i-init
 loop-i-init c = (search rules, search rules, λ _. least_none)
-
-pub returns-then-m-gt4096 : goal.returns-then-m-gt4096
-returns-then-m-gt4096 c =
-    λ good. let l = c.loop-i in record {
-      within = l.invariant.0;
-      multiple = l.invariant.2 good;
-      short = l.invariant.1;
-      passes = λ k. record {
-        known = k;
-        h = l.h;
-        until = l.invariant.2 good;
-        short = l.invariant.1;
-        h' = c.least_multiple-m.result;
-        with = next (goal.at.returns-then-m-gt4096 c).After-least_multiple-m good;
-        long = c.if-m-gt4096.true;
-      };
-    }
 
 pub loop-i-preserved : goal.loop-i-preserved
 loop-i-preserved c = (search rules, search rules, next (goal.at.loop-i-preserved c).After-least_multiple-m)

@@ -1,11 +1,7 @@
-use Prim.Native.Nat.{◌-◌}
 use borrow.Author.Rules.{rules}
 use Rattle.laws.proofs.Loops.{through_first, through_more}
-use Rattle.room.proofs.Checks.{holds, fails, first_found, first_none, first_many}
+use Rattle.room.proofs.Checks.{holds, fails, first_found, first_none}
 use Rattle.room.proofs.first_bad_link.Goals as goal
-
-pub returns-then-room-gt16 : goal.returns-then-room-gt16
-returns-then-room-gt16 c = first_many (search rules)
 
 pub returns-then-link-room : goal.returns-then-link-room
 returns-then-link-room c = first_found c.loop-q.invariant (search rules) (search rules) (search rules)

@@ -1,4 +1,3 @@
-use Prim.Native.Nat.{◌-◌}
 use borrow.Author.Rules.{rules}
 use Rattle.laws.proofs.Loops.{through_first, through_more}
 use Rattle.room.proofs.Checks.{holds, fails, first_found, first_none, first_many}

@@ -1,4 +1,3 @@
-use Prim.Native.Nat.{◌-◌}
 use borrow.Author.Rules.{rules}
 use Rattle.laws.proofs.Loops.{through_first, through_more}
 use Rattle.room.proofs.Checks.{holds, fails, least_found, least_none}
