@@ -1,5 +1,5 @@
 /* Plans the room of a text file, with a table of 65,536 configurations.
-   Build: rt lib export && cc -Iinclude include/plan.c crates/export/out/libexport.a -o target/plan-c
+   Build: (cd crates/export && rt lib) && cc -Iinclude include/plan.c crates/export/out/libexport.a -o target/plan-c
    Run: target/plan-c rooms/twelve.txt
    Exit status: 0 GOOD, 1 NONE, 2 refused (codes 2 to 8), 3 too large (ROOM), 64 wrong use, 70 trouble. */
 

@@ -17,7 +17,7 @@ fn main() {
     println!("cargo:rerun-if-changed={}", archive.display());
     if !archive.is_file() {
         eprintln!(
-            "{} is not there; run: rt lib export",
+            "{} is not there; in crates/export run: rt lib",
             archive.display()
         );
         exit(1);
