@@ -1,6 +1,6 @@
 /* How deep the calls go on the stack: each runs on a thread whose stack is memory of this program, painted before and looked at
    afterwards. Printed are the bytes that a call used beyond those of a thread that calls nothing.
-   Build: rt lib export && cc -O2 -Iinclude bench/stack.c crates/export/out/libexport.a -lpthread -o target/stack
+   Build: (cd crates/export && rt lib) && cc -O2 -Iinclude bench/stack.c crates/export/out/libexport.a -lpthread -o target/stack
    Run: target/stack ROOM_TEXT_FILE .. */
 
 #include <pthread.h>

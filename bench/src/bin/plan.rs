@@ -1,5 +1,5 @@
 //! Planning and judging beside the native planner, in one run, with the table touched before on both
-//! sides: configurations, masks looked at, seconds, and the ratio. Needs `rt lib export`. A word
+//! sides: configurations, masks looked at, seconds, and the ratio. Needs `rt lib` in crates/export. A word
 //! on the command line leaves only the rooms whose names have it.
 
 use bench::native::{self, Answer, Room};

@@ -1,7 +1,7 @@
 // Reads a room text on standard input and prints the answer.
 #![tactic(auto)]
 
-ghost use Rattle.std.specs.Prelude.{◌≤◌, IfOk};
+ghost use Rattle.std.specs.Prelude.{◌≤◌, IfOk, length};
 
 use answer::{INPUT, LINES};
 use std::io;
@@ -10,17 +10,17 @@ use std::io::{Read, Stdin, Stdout, Write};
 // Reads the input, and prints its answer. Where a read fails nothing is printed, and the program ends with the error.
 fn main(rt: HostRuntime) -> io::Result<()> {
     let mut text = [0u8; INPUT];
-    let read = read_input(rt.stdin(), &mut text)?;
+    let read = read_input(rt.stdin(), &mut text[..])?;
     print_answer(rt.stdout(), text, read)
 }
 
 // Reads until the buffer is full or the input ends, in whatever pieces it comes, and gives how many bytes were read.
-fn read_input(input: Stdin, text: &mut [u8; INPUT]) -> io::Result<usize>
-    ensures { IfOk result (λ n. n ≤ INPUT) }
+fn read_input(input: Stdin, text: &mut [u8]) -> io::Result<usize>
+    ensures { IfOk result (λ n. n ≤ length text.new) }
 {
     let mut input = input;
     let mut done: usize = 0;
-    while done < INPUT {
+    while done < text.len() {
         let more = input.read(&mut text[done..])?;
         if more == 0 {
             return Ok(done);
