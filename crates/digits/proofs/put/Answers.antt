@@ -1,4 +1,3 @@
-use Prim.Native.Nat.{◌-◌}
 use borrow.Author.Rules.{rules}
 use Rattle.digits.proofs.Buffers.{part_start, part_turn, part_end}
 use Rattle.digits.proofs.put.Goals as goal

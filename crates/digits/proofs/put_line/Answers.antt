@@ -1,4 +1,3 @@
-use Prim.Native.Nat.{◌-◌}
 use borrow.Author.Rules.{rules}
 use Rattle.digits.proofs.Buffers.{line_start, line_turn, line_end}
 use Rattle.digits.proofs.put_line.Goals as goal

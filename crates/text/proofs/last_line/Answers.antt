@@ -15,7 +15,7 @@ returns-then-not-ending_at c =
 pub returns-then-at-text : goal.returns-then-at-text
 returns-then-at-text c =
     read_bad c.bad_line-then-at-text.ensures (search rules)
-    (bad_after c.requires.0 (is_ending c.ending_at.result c.ending_at.ensures (search rules)) c.if-at-text.true)
+    (bad_after c.requires.0 (is_ending c.ending_at.result c.ending_at.ensures (search rules)) (omega arith))
 
 pub returns : goal.returns
 returns c =

@@ -1,5 +1,4 @@
 -- `text::next_job` meets its contract: no job may follow, its line is not whole, or it is read.
-use native.Mathlib.Omega.{arith}
 use borrow.Author.Rules.{rules}
 use Rattle.text.proofs.Reader.{turn_none, no_job_lem, turn_job, fields_none}
 use Rattle.text.proofs.next_job.Goals as goal
@@ -9,9 +8,6 @@ returns-then-room-ne0 c = turn_none c.no_line.ensures (no_job_lem (search rules)
 
 pub returns-then-room-ne0-2 : goal.returns-then-room-ne0-2
 returns-then-room-ne0-2 c = turn_none c.no_line-then-room-ne0-2.ensures (no_job_lem (search rules) (λ a b d l. c.if-room-ne0-2.true b))
-
-pub returns-then-room-ge16 : goal.returns-then-room-ge16
-returns-then-room-ge16 c = turn_none c.no_line-then-room-ge16.ensures (no_job_lem (search rules) (λ a b d l. omega arith))
 
 pub returns-then-not-fields : goal.returns-then-not-fields
 returns-then-not-fields c =

@@ -1,11 +1,7 @@
 -- `text::next_link` meets its contract: no link may follow, its line is not whole, or it is read.
-use native.Mathlib.Omega.{arith}
 use borrow.Author.Rules.{rules}
 use Rattle.text.proofs.Reader.{turn_none, no_link, turn_link, fields_none}
 use Rattle.text.proofs.next_link.Goals as goal
-
-pub returns-then-room-ge16 : goal.returns-then-room-ge16
-returns-then-room-ge16 c = turn_none c.no_line.ensures (no_link (search rules) (λ a l. omega arith))
 
 pub returns-then-not-fields : goal.returns-then-not-fields
 returns-then-not-fields c =

@@ -1,14 +1,10 @@
 -- `text::next_section` meets its contract: no section may follow, its line is not whole, or it is read.
-use native.Mathlib.Omega.{arith}
 use borrow.Author.Rules.{rules}
 use Rattle.text.proofs.Reader.{turn_none, no_section_lem, turn_section, fields_none}
 use Rattle.text.proofs.next_section.Goals as goal
 
 pub returns-then-room-ne0 : goal.returns-then-room-ne0
 returns-then-room-ne0 c = turn_none c.no_line.ensures (no_section_lem (search rules) (λ a b l. c.if-room-ne0.true a))
-
-pub returns-then-room-ge32 : goal.returns-then-room-ge32
-returns-then-room-ge32 c = turn_none c.no_line-then-room-ge32.ensures (no_section_lem (search rules) (λ a b l. omega arith))
 
 pub returns-then-not-fields : goal.returns-then-not-fields
 returns-then-not-fields c =
