@@ -1,5 +1,6 @@
 -- From the parts of a call to its reply.
 --   refused_undecides                        a refusal, with the table as found
+--   long_undecides                           a table that is too long
 --   many_configurations                      more configurations than a table holds
 --   given_decided                            a pruned table decides the room
 --   none_answer, short_answer, good_answer   what it answers of the plan
@@ -32,6 +33,9 @@ use Rattle.planner.specs.Calls.{Undecides, PlanAnswers, JudgeAnswers}
 
 pub refused_undecides : {room : Room} {table : List ℕ} {r : Refusal} → Refused room r → Undecides room table (undecided.Refused r) table
 refused_undecides {table = table} {r = r} x = record { says = x; table_after_lem = sym (refused_as_found table r) }
+
+pub long_undecides : {room : Room} {table : List ℕ} → Limits room → most < length table → Undecides room table undecided.Table table
+long_undecides limits long = record { says = record { limits = limits; long = long }; table_after_lem = refl }
 
 pub many_configurations : {room : Room} {table : List ℕ} {times : Times} {w : ℕ} → Limits room → Clock room times → length table ≤ most → w ≡ W table
     → MoreThan room times w → TooMany room table

