@@ -25,10 +25,9 @@ fn main(rt: HostRuntime) -> io::Result<()> {
 }
 
 // Reads until the buffer is full or the input ends, and gives how many bytes were read.
-fn read_all(input: Stdin, texts: &mut [u8; ALL]) -> io::Result<usize>
+fn read_all(mut input: Stdin, texts: &mut [u8; ALL]) -> io::Result<usize>
     ensures { IfOk result (λ n. n ≤ ALL) }
 {
-    let mut input = input;
     let mut done: usize = 0;
     while done < ALL {
         let more = input.read(&mut texts[done..])?;
@@ -41,8 +40,7 @@ fn read_all(input: Stdin, texts: &mut [u8; ALL]) -> io::Result<usize>
 }
 
 // Prints the answer to each text.
-fn answer_all(out: Stdout, texts: &[u8]) -> io::Result<()> {
-    let mut out = out;
+fn answer_all(mut out: Stdout, texts: &[u8]) -> io::Result<()> {
     let mut at: usize = 0;
     while at < texts.len() {
         let end = place_of(b'=', texts, at);
@@ -78,8 +76,7 @@ fn print_answer(out: Stdout, text: &[u8]) -> io::Result<()> {
 }
 
 // Prints an answer, or what a long one begins with, its length and a sum of it.
-fn show(out: Stdout, lines: &[u8]) -> io::Result<()> {
-    let mut out = out;
+fn show(mut out: Stdout, lines: &[u8]) -> io::Result<()> {
     if lines.len() <= SHOWN {
         return out.write_all(lines);
     }
@@ -90,8 +87,7 @@ fn show(out: Stdout, lines: &[u8]) -> io::Result<()> {
 }
 
 // Prints a number and the end of a line.
-fn print_number(out: Stdout, n: u64) -> io::Result<()> {
-    let mut out = out;
+fn print_number(mut out: Stdout, n: u64) -> io::Result<()> {
     writeln!(out, "{n}")
 }
 

@@ -15,10 +15,9 @@ fn main(rt: HostRuntime) -> io::Result<()> {
 }
 
 // Reads until the buffer is full or the input ends, in whatever pieces it comes, and gives how many bytes were read.
-fn read_input(input: Stdin, text: &mut [u8]) -> io::Result<usize>
+fn read_input(mut input: Stdin, text: &mut [u8]) -> io::Result<usize>
     ensures { IfOk result (λ n. n ≤ length text.new) }
 {
-    let mut input = input;
     let mut done: usize = 0;
     while done < text.len() {
         let more = input.read(&mut text[done..])?;
@@ -31,8 +30,7 @@ fn read_input(input: Stdin, text: &mut [u8]) -> io::Result<usize>
 }
 
 // Prints the answer to an input of which so many bytes were read.
-fn print_answer(out: Stdout, text: [u8; INPUT], read: usize) -> io::Result<()> {
-    let mut out = out;
+fn print_answer(mut out: Stdout, text: [u8; INPUT], read: usize) -> io::Result<()> {
     let mut lines = [0u8; LINES];
     let n = answer::answer_input(text, read, &mut lines);
     out.write_all(&lines[..n])

@@ -1,5 +1,5 @@
 -- Laws for the loops of the check: what a turn adds, and what the end says.
---   holds, fails                    a verdict, from a test of its negation
+--   holds, fails                    a verdict, from what it came to
 --   least_found, least_none         a search for the least bad entry ends at it, or finds none
 --   first_found, first_none         so does one where there may be too many of them,
 --   first_many, many_links          and one where there are
@@ -8,10 +8,9 @@
 --   within_all, within_limits       where all jobs are within 4,096, H is their multiple; within the limits they are
 use Prim.Native.Nat.{ℕ, ◌+◌, ◌≤◌, ◌<◌, ◌%◌}
 use native.Mathlib.Omega.{arith}
-use mathlib.Core.Path.{◌≡◌, refl, subst}
+use mathlib.Core.Path.{◌≡◌, refl, subst, ap}
 use mathlib.Core.Logic.{⊎_elim}
 use mathlib.Core.Bool.{Bool, true, false, not}
-use borrow.Author.Tests.{not-false}
 use Rattle.laws.specs.Loops.{Through}
 use Rattle.laws.specs.Multiples.{LeastCommon}
 use Rattle.laws.proofs.Loops.{through_all}
@@ -26,11 +25,11 @@ use Rattle.room.specs.Checks.{Verdict, Search, LeastMultiple, JobsWithin}
 -- ---- Bad entries
 
 module _ {fits : Bool} {P : Type 0} (v : Verdict fits P) where
-  pub holds : not fits ≡ false → P
-  holds e = v.yes (T_of fits (not-false fits e))
+  pub holds : fits ≡ true → P
+  holds e = v.yes (T_of fits e)
 
-  pub fails : not fits ≡ true → ¬ P
-  fails e = v.no (T_of (not fits) e)
+  pub fails : fits ≡ false → ¬ P
+  fails e = v.no (T_of (not fits) (ap not e))
 
 module _ {Fine : ℕ → Type 0} {n i : ℕ} (t : Through Fine n i) where
   pub least_found : i < n → ¬ Fine i → Search (LeastBad Fine n) ((k : ℕ) → k < n → Fine k) n i

@@ -49,8 +49,7 @@ pub fn with_number(line: Line, word: &[u8], n: u64) -> Line {
 }
 
 // Writes the first n of the bytes to standard output.
-fn write_first(out: Stdout, bytes: [u8; 256], n: usize) -> io::Result<()> {
-    let mut out = out;
+fn write_first(mut out: Stdout, bytes: [u8; 256], n: usize) -> io::Result<()> {
     if n <= 256 {
         out.write_all(&bytes[..n])?;
     }

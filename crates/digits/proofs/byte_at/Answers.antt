@@ -16,6 +16,5 @@ pub returns-then-low-eq-NO_DIGIT : goal.returns-then-low-eq-NO_DIGIT
 returns-then-low-eq-NO_DIGIT c = byte_second_none c.value-low.ensures c.if-low-eq-NO_DIGIT.true
 
 pub returns : goal.returns
-returns c = let second = c in
-    let first = second in
-    byte_found (omega arith) first.value-high.ensures second.value-low.ensures first.if-high-eq-NO_DIGIT.false c.if-low-eq-NO_DIGIT.false
+returns c =
+    byte_found (omega arith) c.value-high.ensures c.value-low.ensures c.if-high-eq-NO_DIGIT.false c.if-low-eq-NO_DIGIT.false

@@ -6,8 +6,8 @@ pub loop-i-init : goal.loop-i-init
 loop-i-init c = line_start _ _ _ c.requires
 
 pub loop-i-preserved : goal.loop-i-preserved
-loop-i-preserved c = let put = c in
-    line_turn _ _ _ (search rules) put.loop-i.invariant (search rules) put.put_byte-next.ensures put.put_byte-next.auto.buffer
+loop-i-preserved c =
+    line_turn _ _ _ (search rules) c.loop-i.invariant (search rules) c.put_byte-next.ensures c.put_byte-next.auto.buffer
 
 pub returns : goal.returns
 returns c = line_end _ _ _ (search rules) c.loop-i.invariant (search rules)

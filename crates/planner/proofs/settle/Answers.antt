@@ -1,22 +1,11 @@
 -- `planner::settle` meets its contract: the pruned table decides the room, or there are more configurations than it holds.
 use native.Mathlib.Omega.{arith}
 use Prim.Native.Nat.{ℕ}
-use mathlib.Core.Path.{◌≡◌, sym, ap, ◌∙◌, subst}
+use mathlib.Core.Path.{sym, ap, ◌∙◌}
 use lib.ListN.{replicate}
-use Rattle.explore.specs.declared.Exploration.{Exploration}
-use Rattle.explore.specs.Exploring.{Ended}
 use Rattle.follow.specs.Pasts.{Given}
 use Rattle.planner.proofs.Calls.{many_configurations, given_decided}
 use Rattle.planner.proofs.settle.Goals as goal
-use Rattle.planner.proofs.settle.Goals.{After-explore-exploration}
-
--- what the exploration ends with, for each answer
-ended : (c : After-explore-exploration) {r : Exploration} → c.explore-exploration.result ≡ r → let t = c.clock-times.result in
-    Ended c.args.room t c.explore-exploration.new.table c.capacity-w.result r
-ended c e = let t = c.clock-times.result in
-    subst
-    (Ended c.args.room t c.explore-exploration.new.table c.capacity-w.result)
-    e c.explore-exploration.ensures
 
 pub explore-exploration-requires : goal.explore-exploration-requires
 explore-exploration-requires c =
@@ -32,7 +21,7 @@ explore-exploration-requires c =
 pub prune-requires : goal.prune-requires
 prune-requires c =
     let l = c.requires.limits in
-    (l, c.clock-times.ensures l, ended (goal.at.prune-requires c).After-explore-exploration c.in-All.is)
+    (l, c.clock-times.ensures l, c.in-All.ensures)
 
 pub returns-in-All : goal.returns-in-All
 returns-in-All c =
@@ -47,6 +36,6 @@ returns-in-Full c =
     record {
       says =
           many_configurations a.limits (c.clock-times.ensures a.limits) a.lent (omega (arith, c.capacity-w.ensures, e))
-          (ended (goal.at.returns-in-Full c).After-explore-exploration c.in-Full.is);
+          c.in-Full.ensures;
       table_after_lem = c.leave.ensures ∙ ap (λ (n : ℕ). replicate n 0) (c.explore-exploration.auto.table ∙ e);
     }

@@ -11,14 +11,14 @@ use Rattle.room.proofs.check.Goals.{After-common_multiple-common, Else-job-room,
 abbrev room1 : Else-not-in_range → Room
 room1 c = c.args.room
 
-to-jobs : (c : Else-not-in_range) → ToJobs (room1 c)
-to-jobs c = holds c.in_range.ensures c.if-not-in_range.false-raw
+to_jobs : (c : Else-not-in_range) → ToJobs (room1 c)
+to_jobs c = holds c.in_range.ensures c.if-not-in_range.false
 
 abbrev room2 : Else-not-in_range-2 → Room
 room2 c = room1 c.before.before
 
 to_job : (c : Else-not-in_range-2) → ToJob (room2 c)
-to_job c = (to-jobs c.before.before, holds c.in_range-2.ensures c.if-not-in_range-2.false-raw)
+to_job c = (to_jobs c.before.before, holds c.in_range-2.ensures c.if-not-in_range-2.false)
 
 abbrev room3 : Else-job-room → Room
 room3 c = room2 c.before.before.before
@@ -42,10 +42,10 @@ within : (c : After-common_multiple-common) → JobsWithin (room5 c.before) c.co
 within c = c.common_multiple-common.ensures (to_long c.before).0.0.1
 
 pub returns-then-not-in_range : goal.returns-then-not-in_range
-returns-then-not-in_range c = record { earlier = tt; fault = fails c.in_range.ensures c.if-not-in_range.true-raw }
+returns-then-not-in_range c = record { earlier = tt; fault = fails c.in_range.ensures c.if-not-in_range.true }
 
 pub returns-then-not-in_range-2 : goal.returns-then-not-in_range-2
-returns-then-not-in_range-2 c = record { earlier = to-jobs (goal.at.returns-then-not-in_range-2 c).Else-not-in_range; fault = fails c.in_range-2.ensures c.if-not-in_range-2.true-raw }
+returns-then-not-in_range-2 c = record { earlier = to_jobs (goal.at.returns-then-not-in_range-2 c).Else-not-in_range; fault = fails c.in_range-2.ensures c.if-not-in_range-2.true }
 
 pub least_bad_job-job-requires : goal.least_bad_job-job-requires
 least_bad_job-job-requires c = (to_job (goal.at.least_bad_job-job-requires c).Else-not-in_range-2).1.1
@@ -69,11 +69,10 @@ pub common_multiple-common-requires : goal.common_multiple-common-requires
 common_multiple-common-requires c = (to_long (goal.at.common_multiple-common-requires c).Else-link-room).0.0.0.1.1
 
 pub returns-then-common-room : goal.returns-then-common-room
-returns-then-common-room c = let m = c in record { earlier = to_long (goal.at.returns-then-common-room c).Else-link-room; fault = (within (goal.at.returns-then-common-room c).After-common_multiple-common).passes c.if-common-room.true }
+returns-then-common-room c = record { earlier = to_long (goal.at.returns-then-common-room c).Else-link-room; fault = (within (goal.at.returns-then-common-room c).After-common_multiple-common).passes c.if-common-room.true }
 
 pub returns : goal.returns
 returns c =
-    let m = c in
     let t = to_long (goal.at.returns c).Else-link-room in
     record {
       engines = t.0.0.0.0;
@@ -81,7 +80,7 @@ returns c =
       job = t.0.0.1;
       sections = t.0.1;
       links = t.1;
-      H = m.common_multiple-common.result.multiple;
+      H = c.common_multiple-common.result.multiple;
       multiple = within_all (within (goal.at.returns c).After-common_multiple-common) c.if-common-room.false;
       short = (within (goal.at.returns c).After-common_multiple-common).short;
     }

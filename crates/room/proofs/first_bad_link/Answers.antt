@@ -11,15 +11,13 @@ returns-then-link-room-2 c = first_found c.loop-q.invariant (search rules) (sear
 
 pub returns-then-not-link_fits : goal.returns-then-not-link_fits
 returns-then-not-link_fits c =
-    let turn = c in
-    first_found turn.loop-q.invariant (search rules) turn.loop-q-test.true
-    (fails (c.link_fits.ensures _ (search rules) (search rules)) c.if-not-link_fits.true-raw)
+    first_found c.loop-q.invariant (search rules) c.loop-q-test.true
+    (fails (c.link_fits.ensures _ (search rules) (search rules)) c.if-not-link_fits.true)
 
 pub loop-q-preserved : goal.loop-q-preserved
 loop-q-preserved c =
-    let turn = c in
-    through_more turn.loop-q.invariant turn.loop-q-test.true
-    (holds (c.link_fits.ensures _ (search rules) (search rules)) c.if-not-link_fits.false-raw)
+    through_more c.loop-q.invariant c.loop-q-test.true
+    (holds (c.link_fits.ensures _ (search rules) (search rules)) c.if-not-link_fits.false)
 
 pub returns : goal.returns
 returns c = first_none c.loop-q.invariant (search rules) (search rules)

@@ -12,10 +12,10 @@ returns-then-section-room c = first_found c.loop-q.invariant (search rules) (sea
 pub returns-then-not-section_fits : goal.returns-then-not-section_fits
 returns-then-not-section_fits c =
     first_found c.loop-q.invariant (search rules) (search rules)
-    (fails (c.section_fits.ensures _ (search rules)) c.if-not-section_fits.true-raw)
+    (fails (c.section_fits.ensures _ (search rules)) c.if-not-section_fits.true)
 
 pub loop-q-preserved : goal.loop-q-preserved
-loop-q-preserved c = through_more c.loop-q.invariant (search rules) (holds (c.section_fits.ensures _ (search rules)) c.if-not-section_fits.false-raw)
+loop-q-preserved c = through_more c.loop-q.invariant (search rules) (holds (c.section_fits.ensures _ (search rules)) c.if-not-section_fits.false)
 
 pub returns : goal.returns
 returns c = first_none c.loop-q.invariant (search rules) (search rules)

@@ -4,10 +4,10 @@ use Rattle.room.proofs.Checks.{holds, fails, least_found, least_none}
 use Rattle.room.proofs.least_bad_job.Goals as goal
 
 pub returns-then-not-job_fits : goal.returns-then-not-job_fits
-returns-then-not-job_fits c = least_found c.loop-i.invariant (search rules) (fails c.job_fits.ensures c.if-not-job_fits.true-raw)
+returns-then-not-job_fits c = least_found c.loop-i.invariant (search rules) (fails c.job_fits.ensures c.if-not-job_fits.true)
 
 pub loop-i-preserved : goal.loop-i-preserved
-loop-i-preserved c = through_more c.loop-i.invariant (search rules) (holds c.job_fits.ensures c.if-not-job_fits.false-raw)
+loop-i-preserved c = through_more c.loop-i.invariant (search rules) (holds c.job_fits.ensures c.if-not-job_fits.false)
 
 pub returns : goal.returns
 returns c = least_none c.loop-i.invariant (search rules)

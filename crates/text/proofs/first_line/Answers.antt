@@ -10,6 +10,4 @@ returns-then-not-fields c = first_fields c.no_line-then-not-fields.ensures c.fie
 
 pub returns : goal.returns
 returns c =
-    let f = c in
-    let k = f in
-    first_line_lem k.byte_at-kind.ensures f.if-kind-ne160.false f.fields_at-fields.ensures c.if-not-fields.false k.no_room-room.ensures
+    first_line_lem c.byte_at-kind.ensures c.if-kind-ne160.false c.fields_at-fields.ensures c.if-not-fields.false c.no_room-room.ensures

@@ -16,6 +16,5 @@ next_link-requires c = (search rules, byte_at_is c.byte_at-kind.ensures ∙ c.if
 
 pub returns : goal.returns
 returns c =
-    let b = c in
-    let k = b.byte_at-kind.ensures in
-    turn_none c.no_line.ensures (no_kind k b.if-kind-eq161.false b.if-kind-eq162.false b.if-kind-eq163.false)
+    let k = c.byte_at-kind.ensures in
+    turn_none c.no_line.ensures (no_kind k c.if-kind-eq161.false c.if-kind-eq162.false c.if-kind-eq163.false)

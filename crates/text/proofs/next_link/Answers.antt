@@ -10,5 +10,4 @@ returns-then-not-fields c =
 
 pub returns : goal.returns
 returns c =
-    let b = c in
-    turn_link (search rules) b.if-not-fields.false b.fields_at-fields.ensures (search rules) (search rules)
+    turn_link (search rules) c.if-not-fields.false c.fields_at-fields.ensures (search rules) (search rules)

@@ -13,5 +13,4 @@ returns-then-not-fields c =
 
 pub returns : goal.returns
 returns c =
-    let b = c in
-    turn_section (search rules) b.if-not-fields.false b.fields_at-fields.ensures (search rules) (search rules) (search rules)
+    turn_section (search rules) c.if-not-fields.false c.fields_at-fields.ensures (search rules) (search rules) (search rules)
