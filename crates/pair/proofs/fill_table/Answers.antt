@@ -10,7 +10,7 @@ pub loop-i-smaller : goal.loop-i-smaller
 loop-i-smaller c = rw length-set (omega arith)
 
 pub loop-i-preserved : goal.loop-i-preserved
-loop-i-preserved c = uniform_more c.loop-i.invariant c.loop-i-test.true
+loop-i-preserved c = uniform_more c.loop-i.invariant (omega arith)
 
 pub returns : goal.returns
-returns c = uniform_whole c.loop-i.invariant c.loop-i-test.false
+returns c = uniform_whole c.loop-i.invariant (omega arith)
