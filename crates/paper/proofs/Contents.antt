@@ -8,14 +8,13 @@ use Prim.Native.Nat.{ℕ}
 use mathlib.Core.Path.{◌≡◌, refl}
 use mathlib.Core.List.{List}
 use lib.ListN.{length}
+use Rattle.std.specs.Prelude.{Ok, Err}
 use Rattle.paper.specs.declared.Room.{Room}
 use Rattle.paper.specs.declared.Undecided.{Undecided}
 use Rattle.paper.specs.declared.Undecided.TheVariants as undecided
-use Rattle.paper.specs.declared.Planned.{Planned}
 use Rattle.paper.specs.declared.Planned.TheVariants as planned
-use Rattle.paper.specs.declared.Judged.{Judged}
 use Rattle.paper.specs.declared.Judged.TheVariants as judged
-use Rattle.paper.specs.Reply.{planned_numbers, judged_numbers, table_after, Decided, TooLong, TooMany, NotDecided, PlanSays, PlanReply, JudgeSays, JudgeReply}
+use Rattle.paper.specs.Reply.{PlanAnswer, JudgeAnswer, planned_numbers, judged_numbers, table_after, Decided, TooLong, TooMany, NotDecided, PlanSays, PlanReply, JudgeSays, JudgeReply}
 
 module _ (room : Room) (table₀ table₀' : List ℕ) (e : length table₀ ≡ length table₀') where
   too_long_same : TooLong room table₀ → TooLong room table₀'
@@ -33,22 +32,22 @@ module _ (room : Room) (table₀ table₀' : List ℕ) (e : length table₀ ≡ 
   not_decided_same undecided.Room x = too_many_same x
 
 module _ (room : Room) (table₀ table₀' plan₀ : List ℕ) (e : length table₀ ≡ length table₀') where
-  plan_says : (r : Planned) (plan : List ℕ) → PlanSays room table₀ plan₀ (planned_numbers r) r plan → PlanSays room table₀' plan₀ (planned_numbers r) r plan
-  plan_says (planned.Good n a c) plan x = search (decided_same room table₀ table₀' e)
-  plan_says (planned.None n) plan x = (record { decided = decided_same room table₀ table₀' e x.0.decided; infeasible = x.0.infeasible }, x.1)
-  plan_says (planned.Undecided u) plan x = (not_decided_same room table₀ table₀' e u x.0, x.1)
-  plan_says (planned.Short i) plan x = let y = x.0 in search (decided_same room table₀ table₀' e)
+  plan_says : (r : PlanAnswer) (plan : List ℕ) → PlanSays room table₀ plan₀ (planned_numbers r) r plan → PlanSays room table₀' plan₀ (planned_numbers r) r plan
+  plan_says (Ok (planned.Good n a c)) plan x = search (decided_same room table₀ table₀' e)
+  plan_says (Ok (planned.None n)) plan x = (record { decided = decided_same room table₀ table₀' e x.0.decided; infeasible = x.0.infeasible }, x.1)
+  plan_says (Err u) plan x = (not_decided_same room table₀ table₀' e u x.0, x.1)
+  plan_says (Ok (planned.Short i)) plan x = let y = x.0 in search (decided_same room table₀ table₀' e)
 
-  pub plan_contents : (r : Planned) (table plan : List ℕ) → PlanReply room table₀ plan₀ r table plan
+  pub plan_contents : (r : PlanAnswer) (table plan : List ℕ) → PlanReply room table₀ plan₀ r table plan
       → PlanReply room table₀' plan₀ r (table_after (planned_numbers r).code table₀') plan
-  plan_contents r table plan x = record { says = plan_says r plan x.says; table_after_lem = refl }
+  plan_contents r table plan x = record { says = plan_says r plan x.says; table_is = refl }
 
 module _ (room : Room) (past table₀ table₀' : List ℕ) (e : length table₀ ≡ length table₀') where
-  judge_says : (r : Judged) → JudgeSays room past table₀ (judged_numbers r) r → JudgeSays room past table₀' (judged_numbers r) r
-  judge_says (judged.Good n) x = record { decided = decided_same room table₀ table₀' e x.decided; centre = x.centre }
-  judge_says (judged.Undecided u) x = not_decided_same room table₀ table₀' e u x
-  judge_says (judged.Out n i) x = record { decided = decided_same room table₀ table₀' e x.decided; outside = x.outside }
+  judge_says : (r : JudgeAnswer) → JudgeSays room past table₀ (judged_numbers r) r → JudgeSays room past table₀' (judged_numbers r) r
+  judge_says (Ok (judged.Good n)) x = record { decided = decided_same room table₀ table₀' e x.decided; centre = x.centre }
+  judge_says (Err u) x = not_decided_same room table₀ table₀' e u x
+  judge_says (Ok (judged.Out n i)) x = record { decided = decided_same room table₀ table₀' e x.decided; outside = x.outside }
 
-  pub judge_contents : (r : Judged) (table : List ℕ) → JudgeReply room past table₀ r table
+  pub judge_contents : (r : JudgeAnswer) (table : List ℕ) → JudgeReply room past table₀ r table
       → JudgeReply room past table₀' r (table_after (judged_numbers r).code table₀')
-  judge_contents r table x = record { says = judge_says r x.says; table_after_lem = refl }
+  judge_contents r table x = record { says = judge_says r x.says; table_is = refl }

@@ -16,19 +16,18 @@ use mathlib.Core.List.{List}
 use lib.ListN.{length, take, drop}
 use lib.Seq.{take-append_seam}
 use lib.Dec.{lit≤}
+use Rattle.std.specs.Prelude.{Ok, Err}
 use Rattle.paper.specs.declared.Room.{Room}
 use Rattle.paper.specs.declared.Numbers.{Numbers}
 use Rattle.paper.specs.declared.Refusal.TheVariants as refusal
 use Rattle.paper.specs.declared.Undecided.{Undecided}
 use Rattle.paper.specs.declared.Undecided.TheVariants as undecided
-use Rattle.paper.specs.declared.Planned.{Planned}
 use Rattle.paper.specs.declared.Planned.TheVariants as planned
-use Rattle.paper.specs.declared.Judged.{Judged}
 use Rattle.paper.specs.declared.Judged.TheVariants as judged
 use Rattle.paper.specs.Room.{Limits}
 use Rattle.paper.specs.Centre.{Centre, Feasible, Outside}
 use Rattle.paper.specs.Plan.{unrolled}
-use Rattle.paper.specs.Reply.{undecided_numbers, planned_numbers, judged_numbers, PlanIs, zeros, written, Decided, PlanReply, JudgeReply}
+use Rattle.paper.specs.Reply.{PlanAnswer, JudgeAnswer, undecided_numbers, planned_numbers, judged_numbers, PlanIs, zeros, written, Decided, PlanReply, JudgeReply}
 use Rattle.paper.specs.Languages.{DependentValid}
 use Rattle.paper.specs.Means.{HasSchedule, GoesOn, Behaves, IsDecided, PlanFits, Singled, PlanMeans, JudgeMeans}
 use Rattle.laws.proofs.Tests.{lt_or_le}
@@ -58,27 +57,27 @@ undecidable undecided.Room = (lit≤ tt, lit≤ tt)
 -- ---- Planning
 
 module _ (room : Room) (table₀ plan₀ : List ℕ) where
-  plan_decides : (r : Planned) {table plan : List ℕ} → PlanReply room table₀ plan₀ r table plan → IsDecided room table₀ ⊎ Undecidable (planned_numbers r)
-  plan_decides (planned.Good n a c) x = inl (n, x.says.decided)
-  plan_decides (planned.None n) x = inl (n, x.says.0.decided)
-  plan_decides (planned.Undecided u) x = inr (undecidable u)
-  plan_decides (planned.Short i) x = inl (x.says.0.n, x.says.0.decided)
+  plan_decides : (r : PlanAnswer) {table plan : List ℕ} → PlanReply room table₀ plan₀ r table plan → IsDecided room table₀ ⊎ Undecidable (planned_numbers r)
+  plan_decides (Ok (planned.Good n a c)) x = inl (n, x.says.decided)
+  plan_decides (Ok (planned.None n)) x = inl (n, x.says.0.decided)
+  plan_decides (Err u) x = inr (undecidable u)
+  plan_decides (Ok (planned.Short i)) x = inl (x.says.0.n, x.says.0.decided)
 
   module _ {n : ℕ} (d : Decided room table₀ n) where
-    decided_none : ¬ Feasible room → PlanReply room table₀ plan₀ (planned.None n) (zeros table₀) plan₀
-    decided_none f = record { says = (record { decided = d; infeasible = f }, refl); table_after_lem = refl }
+    decided_none : ¬ Feasible room → PlanReply room table₀ plan₀ (Ok (planned.None n)) (zeros table₀) plan₀
+    decided_none f = record { says = (record { decided = d; infeasible = f }, refl); table_is = refl }
 
     module _ {masks : List ℕ} {a : ℕ} (p : PlanIs room masks a) where
-      decided_good : length masks ≤ length plan₀ → PlanReply room table₀ plan₀ (planned.Good n a (length masks - a)) (zeros table₀) (written masks plan₀)
+      decided_good : length masks ≤ length plan₀ → PlanReply room table₀ plan₀ (Ok (planned.Good n a (length masks - a))) (zeros table₀) (written masks plan₀)
       decided_good h = record {
         says = record { decided = d; masks = masks; is = p; cycle = omega (arith, p.plan.turns.earlier); fits = h; buffer = refl };
-        table_after_lem = refl;
+        table_is = refl;
       }
 
-      decided_short : length plan₀ < length masks → PlanReply room table₀ plan₀ (planned.Short (length masks)) (zeros table₀) plan₀
+      decided_short : length plan₀ < length masks → PlanReply room table₀ plan₀ (Ok (planned.Short (length masks))) (zeros table₀) plan₀
       decided_short h = record {
         says = (record { n = n; decided = d; masks = masks; a = a; is = p; place = refl; short = h }, refl);
-        table_after_lem = refl;
+        table_is = refl;
       }
 
   -- what is true of a decided room, and the numbers and the buffer that it then has
@@ -87,10 +86,10 @@ module _ (room : Room) (table₀ plan₀ : List ℕ) where
     good : Feasible room → PlanFits room plan₀ → N.code ≡ 0 → Singled room (unrolled (take (N.prefix + N.cycle) plan) N.prefix) → PlanCase N plan
     short : Feasible room → ¬ PlanFits room plan₀ → N.code ≡ 11 → PlanCase N plan
 
-  plan_case : {r : Planned} {table plan : List ℕ} → PlanReply room table₀ plan₀ r table plan → {n : ℕ} → Decided room table₀ n → PlanCase (planned_numbers r) plan
+  plan_case : {r : PlanAnswer} {table plan : List ℕ} → PlanReply room table₀ plan₀ r table plan → {n : ℕ} → Decided room table₀ n → PlanCase (planned_numbers r) plan
   plan_case {r} {table} {plan} x {n} d = by_feasible (feasible? d.limits d.count.clock)
     where
-      given : (r' : Planned) {table' plan' : List ℕ} → PlanReply room table₀ plan₀ r' table' plan' → PlanCase (planned_numbers r') plan' → PlanCase (planned_numbers r) plan
+      given : (r' : PlanAnswer) {table' plan' : List ℕ} → PlanReply room table₀ plan₀ r' table' plan' → PlanCase (planned_numbers r') plan' → PlanCase (planned_numbers r) plan
       given r' y z = let e = plan_reply_one room table₀ plan₀ r r' table _ plan _ x y in rw (e.0, e.2) z
 
       laid : (masks : List ℕ) {a : ℕ} → a < length masks → take (a + (length masks - a)) (written masks plan₀) ≡ masks
@@ -112,7 +111,7 @@ module _ (room : Room) (table₀ plan₀ : List ℕ) where
           by_length f p.0 (record { times = c.times; clock = c.clock; plan = p.3 }) (lt_or_le (length plan₀) (length p.0))
 
   -- Possible is any property that the room has exactly if it is feasible
-  plan_means_by : {Possible : Type 0} → (Limits room → Feasible room ↔ Possible) → (r : Planned) {table plan : List ℕ}
+  plan_means_by : {Possible : Type 0} → (Limits room → Feasible room ↔ Possible) → (r : PlanAnswer) {table plan : List ℕ}
       → PlanReply room table₀ plan₀ r table plan → PlanMeans Possible room table₀ plan₀ (planned_numbers r) plan
   plan_means_by {Possible} same r {table} {plan} x = ⊎_elim (λ d. decides d) undecided (plan_decides r x)
     where
@@ -150,45 +149,45 @@ module _ (room : Room) (table₀ plan₀ : List ℕ) where
           never : ¬ IsDecided room table₀
           never d = elim (plan_case x d.1) [ none f e ↦ omega arith | good f g e s ↦ omega arith | short f g e ↦ omega arith ]
 
-  pub plan_means : (r : Planned) (table plan : List ℕ) → PlanReply room table₀ plan₀ r table plan
+  pub plan_means : (r : PlanAnswer) (table plan : List ℕ) → PlanReply room table₀ plan₀ r table plan
       → PlanMeans (HasSchedule room) room table₀ plan₀ (planned_numbers r) plan
   plan_means r table plan x = plan_means_by feasible_endless r x
 
-  pub plan_means_004 : (r : Planned) (table plan : List ℕ) → PlanReply room table₀ plan₀ r table plan
+  pub plan_means_004 : (r : PlanAnswer) (table plan : List ℕ) → PlanReply room table₀ plan₀ r table plan
       → PlanMeans (Behaves room) room table₀ plan₀ (planned_numbers r) plan
   plan_means_004 r table plan x = plan_means_by feasible_dependent_valid r x
 
 -- ---- Judging
 
 module _ (room : Room) (past table₀ : List ℕ) where
-  judge_decides : (r : Judged) {table : List ℕ} → JudgeReply room past table₀ r table → IsDecided room table₀ ⊎ Undecidable (judged_numbers r)
-  judge_decides (judged.Good n) x = inl (n, x.says.decided)
-  judge_decides (judged.Undecided u) x = inr (undecidable u)
-  judge_decides (judged.Out n i) x = inl (n, x.says.decided)
+  judge_decides : (r : JudgeAnswer) {table : List ℕ} → JudgeReply room past table₀ r table → IsDecided room table₀ ⊎ Undecidable (judged_numbers r)
+  judge_decides (Ok (judged.Good n)) x = inl (n, x.says.decided)
+  judge_decides (Err u) x = inr (undecidable u)
+  judge_decides (Ok (judged.Out n i)) x = inl (n, x.says.decided)
 
   module _ {n : ℕ} (d : Decided room table₀ n) where
-    decided_accepted : Centre room past → JudgeReply room past table₀ (judged.Good n) (zeros table₀)
-    decided_accepted c = record { says = record { decided = d; centre = c }; table_after_lem = refl }
+    decided_accepted : Centre room past → JudgeReply room past table₀ (Ok (judged.Good n)) (zeros table₀)
+    decided_accepted c = record { says = record { decided = d; centre = c }; table_is = refl }
 
-    decided_out : {i : ℕ} → Outside room past i → JudgeReply room past table₀ (judged.Out n i) (zeros table₀)
-    decided_out x = record { says = record { decided = d; outside = x }; table_after_lem = refl }
+    decided_out : {i : ℕ} → Outside room past i → JudgeReply room past table₀ (Ok (judged.Out n i)) (zeros table₀)
+    decided_out x = record { says = record { decided = d; outside = x }; table_is = refl }
 
   -- what is true of a past of a decided room, and the numbers that it then has
   data JudgeCase (N : Numbers) : Type 0 where
     accepted : Centre room past → N.code ≡ 0 → JudgeCase N
     out : Outside room past N.place → N.code ≡ 12 → JudgeCase N
 
-  judge_case : {r : Judged} {table : List ℕ} → JudgeReply room past table₀ r table → {n : ℕ} → Decided room table₀ n → JudgeCase (judged_numbers r)
+  judge_case : {r : JudgeAnswer} {table : List ℕ} → JudgeReply room past table₀ r table → {n : ℕ} → Decided room table₀ n → JudgeCase (judged_numbers r)
   judge_case {r} {table} x d = ⊎_elim
       (λ c. given _ (decided_accepted d c) (accepted c refl))
       (λ i. given _ (decided_out d i.1) (out i.1 refl))
       (past_judged d.limits d.count.clock past)
     where
-      given : (r' : Judged) {table' : List ℕ} → JudgeReply room past table₀ r' table' → JudgeCase (judged_numbers r') → JudgeCase (judged_numbers r)
+      given : (r' : JudgeAnswer) {table' : List ℕ} → JudgeReply room past table₀ r' table' → JudgeCase (judged_numbers r') → JudgeCase (judged_numbers r)
       given r' y z = rw (judge_reply_one room past table₀ r r' table _ x y).0 z
 
   -- Possible is any property that a past has exactly if it is in the centre
-  judge_means_by : {Possible : List ℕ → Type 0} → (Limits room → (l : List ℕ) → Centre room l ↔ Possible l) → (r : Judged) {table : List ℕ}
+  judge_means_by : {Possible : List ℕ → Type 0} → (Limits room → (l : List ℕ) → Centre room l ↔ Possible l) → (r : JudgeAnswer) {table : List ℕ}
       → JudgeReply room past table₀ r table → JudgeMeans Possible room past table₀ (judged_numbers r)
   judge_means_by {Possible} same r x = ⊎_elim (λ d. decides d) undecided (judge_decides r x)
     where
@@ -219,8 +218,8 @@ module _ (room : Room) (past table₀ : List ℕ) where
           never : ¬ IsDecided room table₀
           never d = elim (judge_case x d.1) [ accepted c e ↦ omega arith | out o e ↦ omega arith ]
 
-  pub judge_means : (r : Judged) (table : List ℕ) → JudgeReply room past table₀ r table → JudgeMeans (GoesOn room) room past table₀ (judged_numbers r)
+  pub judge_means : (r : JudgeAnswer) (table : List ℕ) → JudgeReply room past table₀ r table → JudgeMeans (GoesOn room) room past table₀ (judged_numbers r)
   judge_means r table x = judge_means_by (λ limits. centre_for_ever limits) r x
 
-  pub judge_means_004 : (r : Judged) (table : List ℕ) → JudgeReply room past table₀ r table → JudgeMeans (DependentValid room) room past table₀ (judged_numbers r)
+  pub judge_means_004 : (r : JudgeAnswer) (table : List ℕ) → JudgeReply room past table₀ r table → JudgeMeans (DependentValid room) room past table₀ (judged_numbers r)
   judge_means_004 r table x = judge_means_by (λ limits. centre_dependent_valid limits) r x

@@ -17,6 +17,7 @@ use mathlib.Core.List.Memᴰ.{head}
 use mathlib.Core.List.Memᴰ.{tail}
 use lib.ListN.{length}
 use lib.Dec.{T, eqb, eqb→eq, eqb_refl}
+use Rattle.std.specs.Prelude.{Ok}
 use Rattle.paper.specs.declared.Room.{Room}
 use Rattle.paper.specs.declared.Configuration.{Configuration}
 use Rattle.paper.specs.declared.Planned.{Planned}
@@ -119,21 +120,19 @@ module _ (room : Room) where
     unfoldable pub plan_test : List ℕ → Planned → Bool
     plan_test masks (planned.Good n a c) = good_test masks a c
     plan_test masks (planned.None n) = none_test masks
-    plan_test masks (planned.Undecided d) = false
     plan_test masks (planned.Short i) = false
 
     unfoldable pub judge_test : List ℕ → Judged → Bool
     judge_test past (judged.Good n) = accepted_test past
-    judge_test past (judged.Undecided d) = false
     judge_test past (judged.Out n i) = out_test past i
 
 unfoldable pub row_test : Row → Bool
 row_test (planning room reply masks) =
-    let found = certificate room (planned_numbers reply).count in
-    both (room_test room found (planned_numbers reply).count) (plan_test room found masks reply)
+    let found = certificate room (planned_numbers (Ok reply)).count in
+    both (room_test room found (planned_numbers (Ok reply)).count) (plan_test room found masks reply)
 row_test (judging room past reply) =
-    let found = certificate room (judged_numbers reply).count in
-    both (room_test room found (judged_numbers reply).count) (judge_test room found past reply)
+    let found = certificate room (judged_numbers (Ok reply)).count in
+    both (room_test room found (judged_numbers (Ok reply)).count) (judge_test room found past reply)
 
 unfoldable pub table_test : List Row → Bool
 table_test [] = true
@@ -195,7 +194,7 @@ module _ (room : Room) (found : List (Found Configuration)) (n : ℕ) (t : T (ro
       let is = plan_is masks a (a + c) p.0 q.0 e long in
       record {
         says = record { decided = decided table₀ h w; masks = masks; is = is; cycle = long; fits = fits; buffer = refl };
-        table_after_lem = refl;
+        table_is = refl;
       }
 
   plan_none : (masks : List ℕ) → T (none_test room found masks) → Meets (planning room (planned.None n) masks)
@@ -204,31 +203,29 @@ module _ (room : Room) (found : List (Found Configuration)) (n : ℕ) (t : T (ro
       let p = T_and _ _ u in
       record {
         says = (record { decided = decided table₀ h w; infeasible = not_in_centre [] p.0 }, rw (alike_eq masks [] p.1));
-        table_after_lem = refl;
+        table_is = refl;
       }
 
   judge_good : (past : List ℕ) → T (accepted_test room found past) → Meets (judging room past (judged.Good n))
   unfolding accepted_test
-  judge_good past u table₀ h w = record { says = record { decided = decided table₀ h w; centre = in_centre past u }; table_after_lem = refl }
+  judge_good past u table₀ h w = record { says = record { decided = decided table₀ h w; centre = in_centre past u }; table_is = refl }
 
   judge_out : (past : List ℕ) (i : ℕ) → T (out_test room found past i) → Meets (judging room past (judged.Out n i))
   unfolding out_test
-  judge_out past i u table₀ h w = record { says = record { decided = decided table₀ h w; outside = out_at past i u }; table_after_lem = refl }
+  judge_out past i u table₀ h w = record { says = record { decided = decided table₀ h w; outside = out_at past i u }; table_is = refl }
 
 module _ (room : Room) (found : List (Found Configuration)) where
-  plan_meets : (masks : List ℕ) (r : Planned) → T (room_test room found (planned_numbers r).count) → T (plan_test room found masks r)
+  plan_meets : (masks : List ℕ) (r : Planned) → T (room_test room found (planned_numbers (Ok r)).count) → T (plan_test room found masks r)
       → Meets (planning room r masks)
   unfolding plan_test
   plan_meets masks (planned.Good n a c) t u = plan_good room found n t masks a c u
   plan_meets masks (planned.None n) t u = plan_none room found n t masks u
-  plan_meets masks (planned.Undecided d) t u = absurd u
   plan_meets masks (planned.Short i) t u = absurd u
 
-  judge_meets : (past : List ℕ) (r : Judged) → T (room_test room found (judged_numbers r).count) → T (judge_test room found past r)
+  judge_meets : (past : List ℕ) (r : Judged) → T (room_test room found (judged_numbers (Ok r)).count) → T (judge_test room found past r)
       → Meets (judging room past r)
   unfolding judge_test
   judge_meets past (judged.Good n) t u = judge_good room found n t past u
-  judge_meets past (judged.Undecided d) t u = absurd u
   judge_meets past (judged.Out n i) t u = judge_out room found n t past i u
 
 pub row_meets : (r : Row) → T (row_test r) → Meets r

@@ -10,14 +10,14 @@ use native.Mathlib.Omega.{arith}
 use mathlib.Core.Path.{◌≡◌, refl}
 use mathlib.Core.List.{List, [], ◌∷◌, map, flat_map, flatten}
 use lib.ListN.{length, replicate}
+use Rattle.std.specs.Prelude.{Ok, Err}
 use Rattle.paper.specs.declared.Room.{Room}
 use Rattle.paper.specs.declared.Numbers.{Numbers}
 use Rattle.paper.specs.declared.Refusal.TheVariants as refusal
 use Rattle.paper.specs.declared.Undecided.TheVariants as undecided
 use Rattle.paper.specs.declared.Planned.TheVariants as planned
 use Rattle.paper.specs.declared.Judged.TheVariants as judged
-use Rattle.paper.specs.declared.Reading.TheVariants as reading
-use Rattle.paper.specs.declared.Writing.TheVariants as writing
+use Rattle.paper.specs.declared.Unwritten.TheVariants as unwritten
 use Rattle.paper.specs.Room.{Limits}
 use Rattle.paper.specs.Reply.{refusal_numbers, planned_numbers, judged_numbers, reading_numbers, writing_numbers, W, zeros, TooLong, PlanReply}
 use Rattle.paper.specs.Text.{digit, two_digits, line}
@@ -36,11 +36,11 @@ module _ (room : Room) (table₀ : List ℕ) where
   longer_table limits e = record { limits = limits; long = omega arith }
 
   module _ (plan₀ : List ℕ) {table plan : List ℕ} where
-    table_kept : PlanReply room table₀ plan₀ (planned.Undecided undecided.Table) table plan → table ≡ table₀
-    table_kept x = x.table_after_lem
+    table_kept : PlanReply room table₀ plan₀ (Err undecided.Table) table plan → table ≡ table₀
+    table_kept x = x.table_is
 
-    table_cleared : PlanReply room table₀ plan₀ (planned.Undecided undecided.Room) table plan → table ≡ zeros table₀
-    table_cleared x = x.table_after_lem
+    table_cleared : PlanReply room table₀ plan₀ (Err undecided.Room) table plan → table ≡ zeros table₀
+    table_cleared x = x.table_is
 
 -- ---- The numbers of an answer
 
@@ -59,7 +59,7 @@ refusal_numbers_lem : (i : ℕ) → map (λ r. five (refusal_numbers r)) (refusa
 refusal_numbers_lem i = refl
 
 planned_numbers_lem : (n i a c : ℕ) → map (λ r. five (planned_numbers r))
-    (planned.Good n a c ∷ planned.None n ∷ planned.Undecided undecided.Table ∷ planned.Undecided undecided.Room ∷ planned.Short i ∷ [])
+    (Ok (planned.Good n a c) ∷ Ok (planned.None n) ∷ Err undecided.Table ∷ Err undecided.Room ∷ Ok (planned.Short i) ∷ [])
     ≡ (0 ∷ n ∷ 0 ∷ a ∷ c ∷ [])
     ∷ (1 ∷ n ∷ 0 ∷ 0 ∷ 0 ∷ [])
     ∷ (9 ∷ 0 ∷ 0 ∷ 0 ∷ 0 ∷ [])
@@ -68,12 +68,12 @@ planned_numbers_lem : (n i a c : ℕ) → map (λ r. five (planned_numbers r))
     ∷ []
 planned_numbers_lem n i a c = refl
 
-judged_numbers_lem : (n i : ℕ) → map (λ r. five (judged_numbers r)) (judged.Good n ∷ judged.Out n i ∷ []) ≡ (0 ∷ n ∷ 0 ∷ 0 ∷ 0 ∷ []) ∷ (12 ∷ n ∷ i ∷ 0 ∷ 0 ∷ []) ∷ []
+judged_numbers_lem : (n i : ℕ) → map (λ r. five (judged_numbers r)) (Ok (judged.Good n) ∷ Ok (judged.Out n i) ∷ []) ≡ (0 ∷ n ∷ 0 ∷ 0 ∷ 0 ∷ []) ∷ (12 ∷ n ∷ i ∷ 0 ∷ 0 ∷ []) ∷ []
 judged_numbers_lem n i = refl
 
-text_numbers : (i : ℕ) → five (reading_numbers reading.Good) ∷ five (reading_numbers (reading.Text i)) ∷ five (writing_numbers (writing.Good i)) ∷ five (writing_numbers (writing.Short i)) ∷ []
+text_numbers : (room : Room) (i : ℕ) → five (reading_numbers (Ok room)) ∷ five (reading_numbers (Err (record { place = i }))) ∷ five (writing_numbers (Ok i)) ∷ five (writing_numbers (Err (unwritten.Short i))) ∷ []
     ≡ (0 ∷ 0 ∷ 0 ∷ 0 ∷ 0 ∷ []) ∷ (2 ∷ 0 ∷ i ∷ 0 ∷ 0 ∷ []) ∷ (0 ∷ 0 ∷ i ∷ 0 ∷ 0 ∷ []) ∷ (11 ∷ 0 ∷ i ∷ 0 ∷ 0 ∷ []) ∷ []
-text_numbers i = refl
+text_numbers room i = refl
 
 -- ---- The answer
 

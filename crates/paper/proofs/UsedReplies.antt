@@ -17,6 +17,7 @@ use native.Mathlib.Omega.{arith}
 use mathlib.Core.Path.{◌≡◌}
 use mathlib.Core.List.{List}
 use lib.ListN.{take}
+use Rattle.std.specs.Prelude.{Ok, Err}
 use Rattle.paper.specs.declared.Room.{Room}
 use Rattle.paper.specs.declared.Times.{Times}
 use Rattle.paper.specs.declared.Configuration.{Configuration}
@@ -24,20 +25,15 @@ use Rattle.paper.specs.declared.Refusal.{Refusal}
 use Rattle.paper.specs.declared.Refusal.TheVariants as refusal
 use Rattle.paper.specs.declared.Undecided.{Undecided}
 use Rattle.paper.specs.declared.Undecided.TheVariants as undecided
-use Rattle.paper.specs.declared.Checked.{Checked}
-use Rattle.paper.specs.declared.Checked.TheVariants as checked
-use Rattle.paper.specs.declared.Planned.{Planned}
 use Rattle.paper.specs.declared.Planned.TheVariants as planned
-use Rattle.paper.specs.declared.Judged.{Judged}
 use Rattle.paper.specs.declared.Judged.TheVariants as judged
-use Rattle.paper.specs.declared.Writing.{Writing}
-use Rattle.paper.specs.declared.Writing.TheVariants as writing
+use Rattle.paper.specs.declared.Unwritten.TheVariants as unwritten
 use Rattle.paper.specs.Room.{Limits, SameUsed}
 use Rattle.paper.specs.Centre.{Centre, Outside}
 use Rattle.paper.specs.Configuration.{Reached}
 use Rattle.paper.specs.Plan.{Greatest}
 use Rattle.paper.specs.Reply.{planned_numbers, judged_numbers, LeastBad, FirstBad, many, one, Passes, Refused, CountIs, PlanIs, Exceeds, Decided, TooLong, TooMany, NotDecided}
-use Rattle.paper.specs.Reply.{CheckReply, PlanSays, PlanReply, JudgeSays, JudgeReply, WriteReply}
+use Rattle.paper.specs.Reply.{CheckAnswer, PlanAnswer, JudgeAnswer, WriteAnswer, CheckReply, PlanSays, PlanReply, JudgeSays, JudgeReply, WriteReply}
 use Rattle.laws.proofs.Repeats.{first_along}
 use Rattle.paper.proofs.Refusals.{BadJob, BadSection, BadLink}
 use Rattle.paper.proofs.Entries.{used_render}
@@ -129,32 +125,32 @@ module _ {room room' : Room} (same : SameUsed room room') where
 
   -- ---- The calls
 
-  pub check_reply_used : (r : Checked) → CheckReply room r → CheckReply room' r
-  check_reply_used checked.Good x = limits_used same x
-  check_reply_used (checked.Refused r) x = refused_used r x
+  pub check_reply_used : (r : CheckAnswer) → CheckReply room r → CheckReply room' r
+  check_reply_used (Ok _) x = limits_used same x
+  check_reply_used (Err r) x = refused_used r x
 
   module _ (table₀ plan₀ plan : List ℕ) where
-    plan_says_used : (r : Planned) → PlanSays room table₀ plan₀ (planned_numbers r) r plan → PlanSays room' table₀ plan₀ (planned_numbers r) r plan
-    plan_says_used (planned.Good n a c) x = search (decided_used, plan_is_used)
-    plan_says_used (planned.None n) x = let y = x.0 in search (decided_used, centre_back, y.infeasible)
-    plan_says_used (planned.Undecided u) x = (not_decided_used table₀ u x.0, x.1)
-    plan_says_used (planned.Short i) x = let y = x.0 in let p = plan_is_used y.decided.limits y.is in search decided_used
+    plan_says_used : (r : PlanAnswer) → PlanSays room table₀ plan₀ (planned_numbers r) r plan → PlanSays room' table₀ plan₀ (planned_numbers r) r plan
+    plan_says_used (Ok (planned.Good n a c)) x = search (decided_used, plan_is_used)
+    plan_says_used (Ok (planned.None n)) x = let y = x.0 in search (decided_used, centre_back, y.infeasible)
+    plan_says_used (Err u) x = (not_decided_used table₀ u x.0, x.1)
+    plan_says_used (Ok (planned.Short i)) x = let y = x.0 in let p = plan_is_used y.decided.limits y.is in search decided_used
 
-  pub plan_reply_used : {table₀ plan₀ : List ℕ} {r : Planned} {table plan : List ℕ} → PlanReply room table₀ plan₀ r table plan
+  pub plan_reply_used : {table₀ plan₀ : List ℕ} {r : PlanAnswer} {table plan : List ℕ} → PlanReply room table₀ plan₀ r table plan
       → PlanReply room' table₀ plan₀ r table plan
-  plan_reply_used {table₀} {plan₀} {r} {plan = plan} x = record { says = plan_says_used table₀ plan₀ plan r x.says; table_after_lem = x.table_after_lem }
+  plan_reply_used {table₀} {plan₀} {r} {plan = plan} x = record { says = plan_says_used table₀ plan₀ plan r x.says; table_is = x.table_is }
 
   module _ (past table₀ : List ℕ) where
-    judge_says_used : (r : Judged) → JudgeSays room past table₀ (judged_numbers r) r → JudgeSays room' past table₀ (judged_numbers r) r
-    judge_says_used (judged.Good n) x = search (decided_used, centre_used same)
-    judge_says_used (judged.Undecided u) x = not_decided_used table₀ u x
-    judge_says_used (judged.Out n i) x = search (decided_used, outside_used)
+    judge_says_used : (r : JudgeAnswer) → JudgeSays room past table₀ (judged_numbers r) r → JudgeSays room' past table₀ (judged_numbers r) r
+    judge_says_used (Ok (judged.Good n)) x = search (decided_used, centre_used same)
+    judge_says_used (Err u) x = not_decided_used table₀ u x
+    judge_says_used (Ok (judged.Out n i)) x = search (decided_used, outside_used)
 
-  pub judge_reply_used : {past table₀ : List ℕ} {r : Judged} {table : List ℕ} → JudgeReply room past table₀ r table → JudgeReply room' past table₀ r table
-  judge_reply_used {past} {table₀} {r} x = record { says = judge_says_used past table₀ r x.says; table_after_lem = x.table_after_lem }
+  pub judge_reply_used : {past table₀ : List ℕ} {r : JudgeAnswer} {table : List ℕ} → JudgeReply room past table₀ r table → JudgeReply room' past table₀ r table
+  judge_reply_used {past} {table₀} {r} x = record { says = judge_says_used past table₀ r x.says; table_is = x.table_is }
 
   module _ (text₀ text : List ℕ) where
-    pub write_reply_used : (r : Writing) → WriteReply room text₀ r text → WriteReply room' text₀ r text
-    write_reply_used (writing.Good i) x = search (limits_used same, ← used_render room room' same)
-    write_reply_used (writing.Refused r) x = (refused_used r x.0, x.1)
-    write_reply_used (writing.Short i) x = let y = x.0 in search (limits_used same, ← used_render room room' same)
+    pub write_reply_used : (r : WriteAnswer) → WriteReply room text₀ r text → WriteReply room' text₀ r text
+    write_reply_used (Ok i) x = search (limits_used same, ← used_render room room' same)
+    write_reply_used (Err (unwritten.Refused r)) x = (refused_used r x.0, x.1)
+    write_reply_used (Err (unwritten.Short i)) x = let y = x.0 in search (limits_used same, ← used_render room room' same)

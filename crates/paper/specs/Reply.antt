@@ -1,6 +1,9 @@
 -- What comes back (01, "What comes back"): the numbers of each answer, when it is given, and the lent memory afterwards.
+--   CheckAnswer, PlanAnswer, JudgeAnswer, ReadAnswer, WriteAnswer
+--                                    what each call answers
 --   named                            code, count and place, the rest 0
---   refusal_numbers, undecided_numbers the numbers of what the calls share
+--   refusal_numbers, undecided_numbers
+--                                    the numbers of what the calls share
 --   checked_numbers, planned_numbers, judged_numbers, reading_numbers, writing_numbers
 --                                    those of each call's answer
 --   LeastBad, FirstBad, Passes       the places of the refusals 5 to 8
@@ -9,7 +12,7 @@
 --   Earlier, Fault, Refused          the refusals 3 to 8: the tests before one pass, and its own fails
 --   CountIs, PlanIs, Exceeds         count, plan and more than w, for the R and H of the room
 --   most, W                          the longest table, and how many configurations a table holds
---   zeros, table_after                a cleared table; the table after a call
+--   zeros, table_after               a cleared table; the table after a call
 --   written                          a buffer with a result from its start
 --   CheckReply                       the call that checks: its argument and its answer
 --   Decided                          a room decided with its count
@@ -18,10 +21,10 @@
 --                                    the call that plans: all arguments at entry, the answer, every lent buffer at exit
 --   JudgeGood, JudgeOut, JudgeSays, JudgeReply
 --                                    the call that judges, likewise
---   ReadSays, ReadReply              the reader
+--   ReadReply                        the reader
 --   WriteGood, WriteShort, WriteSays, WriteReply
 --                                    the writer
-use Rattle.std.specs.Prelude.{ℕ, ◌+◌, ◌≤◌, ◌<◌, ◌/◌, ◌≡◌, cond, ◌&&◌, List, ◌++◌, length, drop, replicate, leb}
+use Rattle.std.specs.Prelude.{ℕ, ◌+◌, ◌≤◌, ◌<◌, ◌/◌, ◌≡◌, cond, ◌&&◌, List, ◌++◌, length, drop, replicate, leb, Result, Ok, Err}
 use Rattle.paper.specs.declared.Room.{Room}
 use Rattle.paper.specs.declared.Times.{Times}
 use Rattle.paper.specs.declared.Numbers.{Numbers}
@@ -29,22 +32,41 @@ use Rattle.paper.specs.declared.Refusal.{Refusal}
 use Rattle.paper.specs.declared.Refusal.TheVariants as refusal
 use Rattle.paper.specs.declared.Undecided.{Undecided}
 use Rattle.paper.specs.declared.Undecided.TheVariants as undecided
-use Rattle.paper.specs.declared.Checked.{Checked}
-use Rattle.paper.specs.declared.Checked.TheVariants as checked
 use Rattle.paper.specs.declared.Planned.{Planned}
 use Rattle.paper.specs.declared.Planned.TheVariants as planned
 use Rattle.paper.specs.declared.Judged.{Judged}
 use Rattle.paper.specs.declared.Judged.TheVariants as judged
-use Rattle.paper.specs.declared.Reading.{Reading}
-use Rattle.paper.specs.declared.Reading.TheVariants as reading
-use Rattle.paper.specs.declared.Writing.{Writing}
-use Rattle.paper.specs.declared.Writing.TheVariants as writing
+use Rattle.paper.specs.declared.BadLine.{BadLine}
+use Rattle.paper.specs.declared.Unwritten.{Unwritten}
+use Rattle.paper.specs.declared.Unwritten.TheVariants as unwritten
 use Rattle.paper.specs.Room.{job, section, link, GoodJob, GoodSection, GoodLink, EnginesFit, JobsFit, EachJobFits, SectionsFit, LinksFit}
 use Rattle.paper.specs.Room.{Multiple, Clock, Limits}
 use Rattle.paper.specs.Centre.{Centre, Feasible, Outside}
 use Rattle.paper.specs.Configuration.{Counted, MoreThan}
 use Rattle.paper.specs.Plan.{Plan}
-use Rattle.paper.specs.Text.{render, FirstBadLine, no_room, Read}
+use Rattle.paper.specs.Text.{render, FirstBadLine, Read}
+
+-- ---- What each call answers
+
+-- GOOD, or why the room is refused
+abbrev pub CheckAnswer : Type 0
+CheckAnswer = Result (Unit {0}) Refusal
+
+-- GOOD, NONE or SHORT of a decided room, or why the room is not decided
+abbrev pub PlanAnswer : Type 0
+PlanAnswer = Result Planned Undecided
+
+-- GOOD or OUT of a decided room, likewise
+abbrev pub JudgeAnswer : Type 0
+JudgeAnswer = Result Judged Undecided
+
+-- GOOD with the room, or TEXT with the first bad line and no room
+abbrev pub ReadAnswer : Type 0
+ReadAnswer = Result Room BadLine
+
+-- GOOD with the bytes written, or why the text is not written
+abbrev pub WriteAnswer : Type 0
+WriteAnswer = Result ℕ Unwritten
 
 -- ---- The numbers of an answer
 
@@ -68,33 +90,33 @@ undecided_numbers undecided.Table = named 9 0 0
 undecided_numbers undecided.Room = named 10 0 0
 
 -- of a check GOOD names nothing
-abbrev pub checked_numbers : Checked → Numbers
-checked_numbers checked.Good = named 0 0 0
-checked_numbers (checked.Refused r) = refusal_numbers r
+abbrev pub checked_numbers : CheckAnswer → Numbers
+checked_numbers (Ok _) = named 0 0 0
+checked_numbers (Err r) = refusal_numbers r
 
 -- of a plan GOOD names count, prefix and cycle, NONE the count, SHORT the place
-abbrev pub planned_numbers : Planned → Numbers
-planned_numbers (planned.Good n a c) = record { code = 0; count = n; place = 0; prefix = a; cycle = c }
-planned_numbers (planned.None n) = named 1 n 0
-planned_numbers (planned.Undecided u) = undecided_numbers u
-planned_numbers (planned.Short i) = named 11 0 i
+abbrev pub planned_numbers : PlanAnswer → Numbers
+planned_numbers (Ok (planned.Good n a c)) = record { code = 0; count = n; place = 0; prefix = a; cycle = c }
+planned_numbers (Ok (planned.None n)) = named 1 n 0
+planned_numbers (Ok (planned.Short i)) = named 11 0 i
+planned_numbers (Err u) = undecided_numbers u
 
 -- of a past GOOD names the count, OUT count and place
-abbrev pub judged_numbers : Judged → Numbers
-judged_numbers (judged.Good n) = named 0 n 0
-judged_numbers (judged.Undecided u) = undecided_numbers u
-judged_numbers (judged.Out n i) = named 12 n i
+abbrev pub judged_numbers : JudgeAnswer → Numbers
+judged_numbers (Ok (judged.Good n)) = named 0 n 0
+judged_numbers (Ok (judged.Out n i)) = named 12 n i
+judged_numbers (Err u) = undecided_numbers u
 
 -- of a text read GOOD names nothing, TEXT the place
-abbrev pub reading_numbers : Reading → Numbers
-reading_numbers reading.Good = named 0 0 0
-reading_numbers (reading.Text i) = named 2 0 i
+abbrev pub reading_numbers : ReadAnswer → Numbers
+reading_numbers (Ok _) = named 0 0 0
+reading_numbers (Err b) = named 2 0 b.place
 
 -- of a text written GOOD and SHORT name the place
-abbrev pub writing_numbers : Writing → Numbers
-writing_numbers (writing.Good i) = named 0 0 i
-writing_numbers (writing.Refused r) = refusal_numbers r
-writing_numbers (writing.Short i) = named 11 0 i
+abbrev pub writing_numbers : WriteAnswer → Numbers
+writing_numbers (Ok i) = named 0 0 i
+writing_numbers (Err (unwritten.Refused r)) = refusal_numbers r
+writing_numbers (Err (unwritten.Short i)) = named 11 0 i
 
 -- ---- The refusals that rest on the room alone
 
@@ -200,9 +222,9 @@ written result buffer = result ++ drop (length result) buffer
 -- ---- Check
 
 -- where only a check of the room is asked: GOOD where none of 3 to 8 applies
-abbrev pub CheckReply : Room → Checked → Type 0
-CheckReply room checked.Good = Limits room
-CheckReply room (checked.Refused r) = Refused room r
+abbrev pub CheckReply : Room → CheckAnswer → Type 0
+CheckReply room (Ok _) = Limits room
+CheckReply room (Err r) = Refused room r
 
 -- ---- Decide
 
@@ -256,15 +278,15 @@ pub record PlanShort (room : Room) (table₀ plan₀ : List ℕ) (N : Numbers) :
   pub place : N.place ≡ length masks
   pub short : length plan₀ < length masks
 
-abbrev pub PlanSays : Room → List ℕ → List ℕ → Numbers → Planned → List ℕ → Type 0
-PlanSays room table₀ plan₀ N (planned.Good n a c) plan = PlanGood room table₀ plan₀ plan N
-PlanSays room table₀ plan₀ N (planned.None n) plan = PlanNone room table₀ N × (plan ≡ plan₀)
-PlanSays room table₀ plan₀ N (planned.Undecided u) plan = NotDecided room table₀ u × (plan ≡ plan₀)
-PlanSays room table₀ plan₀ N (planned.Short i) plan = PlanShort room table₀ plan₀ N × (plan ≡ plan₀)
+abbrev pub PlanSays : Room → List ℕ → List ℕ → Numbers → PlanAnswer → List ℕ → Type 0
+PlanSays room table₀ plan₀ N (Ok (planned.Good n a c)) plan = PlanGood room table₀ plan₀ plan N
+PlanSays room table₀ plan₀ N (Ok (planned.None n)) plan = PlanNone room table₀ N × (plan ≡ plan₀)
+PlanSays room table₀ plan₀ N (Ok (planned.Short i)) plan = PlanShort room table₀ plan₀ N × (plan ≡ plan₀)
+PlanSays room table₀ plan₀ N (Err u) plan = NotDecided room table₀ u × (plan ≡ plan₀)
 
-pub record PlanReply (room : Room) (table₀ plan₀ : List ℕ) (r : Planned) (table plan : List ℕ) : Type 0 where
+pub record PlanReply (room : Room) (table₀ plan₀ : List ℕ) (r : PlanAnswer) (table plan : List ℕ) : Type 0 where
   pub says : PlanSays room table₀ plan₀ (planned_numbers r) r plan
-  pub table_after_lem : table ≡ table_after (planned_numbers r).code table₀
+  pub table_is : table ≡ table_after (planned_numbers r).code table₀
 
 -- ---- Judge
 
@@ -279,24 +301,21 @@ pub record JudgeOut (room : Room) (past table₀ : List ℕ) (N : Numbers) : Typ
   pub outside : Outside room past N.place
 
 -- judging never gives 1, 2 or 11
-abbrev pub JudgeSays : Room → List ℕ → List ℕ → Numbers → Judged → Type 0
-JudgeSays room past table₀ N (judged.Good n) = JudgeGood room past table₀ N
-JudgeSays room past table₀ N (judged.Undecided u) = NotDecided room table₀ u
-JudgeSays room past table₀ N (judged.Out n i) = JudgeOut room past table₀ N
+abbrev pub JudgeSays : Room → List ℕ → List ℕ → Numbers → JudgeAnswer → Type 0
+JudgeSays room past table₀ N (Ok (judged.Good n)) = JudgeGood room past table₀ N
+JudgeSays room past table₀ N (Ok (judged.Out n i)) = JudgeOut room past table₀ N
+JudgeSays room past table₀ N (Err u) = NotDecided room table₀ u
 
-pub record JudgeReply (room : Room) (past table₀ : List ℕ) (r : Judged) (table : List ℕ) : Type 0 where
+pub record JudgeReply (room : Room) (past table₀ : List ℕ) (r : JudgeAnswer) (table : List ℕ) : Type 0 where
   pub says : JudgeSays room past table₀ (judged_numbers r) r
-  pub table_after_lem : table ≡ table_after (judged_numbers r).code table₀
+  pub table_is : table ≡ table_after (judged_numbers r).code table₀
 
 -- ---- Read
 
--- the reader gives only 0 and 2, and on 2 a room of all zeros; place: first bad line, from 0
-abbrev pub ReadSays : List ℕ → Numbers → Reading → Room → Type 0
-ReadSays text N reading.Good room = Read text room
-ReadSays text N (reading.Text i) room = FirstBadLine text N.place × (room ≡ no_room)
-
-abbrev pub ReadReply : List ℕ → Reading → Room → Type 0
-ReadReply text r room = ReadSays text (reading_numbers r) r room
+-- the reader gives only 0 and 2, and on 2 no room; place: first bad line, from 0
+abbrev pub ReadReply : List ℕ → ReadAnswer → Type 0
+ReadReply text (Ok room) = Read text room
+ReadReply text (Err b) = FirstBadLine text b.place
 
 -- ---- Write
 
@@ -314,10 +333,10 @@ pub record WriteShort (room : Room) (text₀ : List ℕ) (N : Numbers) : Type 0 
   pub short : length text₀ < length (render room)
 
 -- the writer gives 0, 3 to 8 and 11
-abbrev pub WriteSays : Room → List ℕ → Numbers → Writing → List ℕ → Type 0
-WriteSays room text₀ N (writing.Good i) text = WriteGood room text₀ text N
-WriteSays room text₀ N (writing.Refused r) text = Refused room r × (text ≡ text₀)
-WriteSays room text₀ N (writing.Short i) text = WriteShort room text₀ N × (text ≡ text₀)
+abbrev pub WriteSays : Room → List ℕ → Numbers → WriteAnswer → List ℕ → Type 0
+WriteSays room text₀ N (Ok i) text = WriteGood room text₀ text N
+WriteSays room text₀ N (Err (unwritten.Refused r)) text = Refused room r × (text ≡ text₀)
+WriteSays room text₀ N (Err (unwritten.Short i)) text = WriteShort room text₀ N × (text ≡ text₀)
 
-abbrev pub WriteReply : Room → List ℕ → Writing → List ℕ → Type 0
+abbrev pub WriteReply : Room → List ℕ → WriteAnswer → List ℕ → Type 0
 WriteReply room text₀ r text = WriteSays room text₀ (writing_numbers r) r text

@@ -1,198 +1,132 @@
 // The numbers of each call's answer, as the paper tells them.
 #![tactic(auto)]
 
-ghost use Rattle.paper.specs.Reply.{refusal_numbers, undecided_numbers, checked_numbers, planned_numbers, judged_numbers, reading_numbers, writing_numbers};
-ghost use Rattle.reply.specs.Numbers.{SameNumbers};
+ghost use Rattle.std.specs.Prelude.{◌<◌, ◌^◌, ◌≡◌};
+ghost use Rattle.paper.specs.declared.Numbers.{Numbers};
+ghost use Rattle.paper.specs.Reply.{named, refusal_numbers, undecided_numbers, checked_numbers, planned_numbers, judged_numbers, reading_numbers, writing_numbers};
 
-use paper::{Checked, Judged, Numbers, Planned, Reading, Refusal, Undecided, Writing};
+use paper::{BadLine, Judged, Numbers, Planned, Refusal, Room, Undecided, Unwritten};
 
-// The numbers of a refusal.
-fn of_refusal(refusal: Refusal) -> Numbers
-    ensures { SameNumbers result (refusal_numbers refusal) }
+// An answer, or a part of one, that is told by its numbers.
+pub trait Told {
+    ghost numbers_of: { Self → Numbers };
+
+    fn numbers(self) -> Numbers
+        ensures { result ≡ numbers_of self };
+}
+
+// Code, count and place; the rest is 0.
+fn named(code: u8, count: usize, place: usize) -> Numbers
+    ensures { result ≡ named code count place }
 {
-    match refusal {
-        Refusal::Engines => Numbers {
-            code: 3,
-            count: 0,
-            place: 0,
-            prefix: 0,
-            cycle: 0,
-        },
-        Refusal::Jobs => Numbers {
-            code: 4,
-            count: 0,
-            place: 0,
-            prefix: 0,
-            cycle: 0,
-        },
-        Refusal::Job { place } => Numbers {
-            code: 5,
-            count: 0,
-            place,
-            prefix: 0,
-            cycle: 0,
-        },
-        Refusal::Section { place } => Numbers {
-            code: 6,
-            count: 0,
-            place,
-            prefix: 0,
-            cycle: 0,
-        },
-        Refusal::Link { place } => Numbers {
-            code: 7,
-            count: 0,
-            place,
-            prefix: 0,
-            cycle: 0,
-        },
-        Refusal::Long { place } => Numbers {
-            code: 8,
-            count: 0,
-            place,
-            prefix: 0,
-            cycle: 0,
-        },
+    Numbers {
+        code,
+        count,
+        place,
+        prefix: 0,
+        cycle: 0,
     }
 }
 
-// The numbers of what leaves a room undecided.
-fn of_undecided(undecided: Undecided) -> Numbers
-    ensures { SameNumbers result (undecided_numbers undecided) }
-{
-    match undecided {
-        Undecided::Refused(refusal) => of_refusal(refusal),
-        Undecided::Table => Numbers {
-            code: 9,
-            count: 0,
-            place: 0,
-            prefix: 0,
-            cycle: 0,
-        },
-        Undecided::Room => Numbers {
-            code: 10,
-            count: 0,
-            place: 0,
-            prefix: 0,
-            cycle: 0,
-        },
+impl Told for Refusal {
+    ghost numbers_of = { refusal_numbers };
+
+    fn numbers(self) -> Numbers {
+        match self {
+            Refusal::Engines => named(3, 0, 0),
+            Refusal::Jobs => named(4, 0, 0),
+            Refusal::Job { place } => named(5, 0, place),
+            Refusal::Section { place } => named(6, 0, place),
+            Refusal::Link { place } => named(7, 0, place),
+            Refusal::Long { place } => named(8, 0, place),
+        }
     }
 }
 
-// The numbers of a room checked.
-pub fn of_checked(checked: Checked) -> Numbers
-    ensures { SameNumbers result (checked_numbers checked) }
-{
-    match checked {
-        Checked::Good => Numbers {
-            code: 0,
-            count: 0,
-            place: 0,
-            prefix: 0,
-            cycle: 0,
-        },
-        Checked::Refused(refusal) => of_refusal(refusal),
+impl Told for Undecided {
+    ghost numbers_of = { undecided_numbers };
+
+    fn numbers(self) -> Numbers {
+        match self {
+            Undecided::Refused(refusal) => refusal.numbers(),
+            Undecided::Table => named(9, 0, 0),
+            Undecided::Room => named(10, 0, 0),
+        }
     }
 }
 
-// The numbers of a room planned.
-pub fn of_planned(planned: Planned) -> Numbers
-    ensures { SameNumbers result (planned_numbers planned) }
-{
-    match planned {
-        Planned::Good {
-            count,
-            prefix,
-            cycle,
-        } => Numbers {
-            code: 0,
-            count,
-            place: 0,
-            prefix,
-            cycle,
-        },
-        Planned::None { count } => Numbers {
-            code: 1,
-            count,
-            place: 0,
-            prefix: 0,
-            cycle: 0,
-        },
-        Planned::Undecided(undecided) => of_undecided(undecided),
-        Planned::Short { place } => Numbers {
-            code: 11,
-            count: 0,
-            place,
-            prefix: 0,
-            cycle: 0,
-        },
+// A room checked.
+impl Told for Result<(), Refusal> {
+    ghost numbers_of = { checked_numbers };
+
+    fn numbers(self) -> Numbers {
+        match self {
+            Ok(()) => named(0, 0, 0),
+            Err(refusal) => refusal.numbers(),
+        }
     }
 }
 
-// The numbers of a past judged.
-pub fn of_judged(judged: Judged) -> Numbers
-    ensures { SameNumbers result (judged_numbers judged) }
-{
-    match judged {
-        Judged::Good { count } => Numbers {
-            code: 0,
-            count,
-            place: 0,
-            prefix: 0,
-            cycle: 0,
-        },
-        Judged::Undecided(undecided) => of_undecided(undecided),
-        Judged::Out { count, place } => Numbers {
-            code: 12,
-            count,
-            place,
-            prefix: 0,
-            cycle: 0,
-        },
+// A room planned.
+impl Told for Result<Planned, Undecided> {
+    ghost numbers_of = { planned_numbers };
+
+    fn numbers(self) -> Numbers {
+        match self {
+            Ok(
+                Planned::Good {
+                    count,
+                    prefix,
+                    cycle,
+                },
+            ) => Numbers {
+                code: 0,
+                count,
+                place: 0,
+                prefix,
+                cycle,
+            },
+            Ok(Planned::None { count }) => named(1, count, 0),
+            Ok(Planned::Short { place }) => named(11, 0, place),
+            Err(undecided) => undecided.numbers(),
+        }
     }
 }
 
-// The numbers of a text read.
-pub fn of_reading(reading: Reading) -> Numbers
-    ensures { SameNumbers result (reading_numbers reading) }
-{
-    match reading {
-        Reading::Good => Numbers {
-            code: 0,
-            count: 0,
-            place: 0,
-            prefix: 0,
-            cycle: 0,
-        },
-        Reading::Text { place: line } => Numbers {
-            code: 2,
-            count: 0,
-            place: line,
-            prefix: 0,
-            cycle: 0,
-        },
+// A past judged.
+impl Told for Result<Judged, Undecided> {
+    ghost numbers_of = { judged_numbers };
+
+    fn numbers(self) -> Numbers {
+        match self {
+            Ok(Judged::Good { count }) => named(0, count, 0),
+            Ok(Judged::Out { count, place }) => named(12, count, place),
+            Err(undecided) => undecided.numbers(),
+        }
     }
 }
 
-// The numbers of a text written.
-pub fn of_writing(writing: Writing) -> Numbers
-    ensures { SameNumbers result (writing_numbers writing) }
-{
-    match writing {
-        Writing::Good { place } => Numbers {
-            code: 0,
-            count: 0,
-            place,
-            prefix: 0,
-            cycle: 0,
-        },
-        Writing::Refused(refusal) => of_refusal(refusal),
-        Writing::Short { place } => Numbers {
-            code: 11,
-            count: 0,
-            place,
-            prefix: 0,
-            cycle: 0,
-        },
+// A text read.
+impl Told for Result<Room, BadLine> {
+    ghost numbers_of = { reading_numbers };
+
+    fn numbers(self) -> Numbers {
+        match self {
+            Ok(_) => named(0, 0, 0),
+            Err(bad) => named(2, 0, bad.place),
+        }
+    }
+}
+
+// A text written.
+impl Told for Result<usize, Unwritten> {
+    ghost numbers_of = { writing_numbers };
+
+    fn numbers(self) -> Numbers {
+        match self {
+            Ok(length) => named(0, 0, length),
+            Err(Unwritten::Refused(refusal)) => refusal.numbers(),
+            Err(Unwritten::Short { place }) => named(11, 0, place),
+        }
     }
 }
