@@ -3,7 +3,6 @@
 --   Split                            m keeps the law, and x is its jobs that need not run
 --   greatest_nothing                 no mask keeps the law
 --   ready_of                         a law that a mask keeps is ready
---   greatest_few                     the jobs that must run leave `left` engines
 --   greatest_apart, greatest_quiet   must, filled up, is the greatest
 --   next_nothing                     no job of m can be left out
 --   next_lowest, next_few            the lowest that can, and the engines that are left without it
@@ -75,9 +74,6 @@ module _ (law : Law) where
     agree_back e i j a b = sym (agree e i j a b)
 
     -- ---- The answers of `greatest`
-
-    pub greatest_few : ones must ≤ engines
-    greatest_few = p.keeps.few
 
     pub greatest_apart : (r : ℕ) → Fills clash must free (engines - ones must) r → GreatestKeeping must may clash engines r
     greatest_apart r fills =

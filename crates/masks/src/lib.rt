@@ -7,6 +7,7 @@ ghost use Rattle.laws.specs.Bits.{bit};
 ghost use Rattle.laws.specs.Words.{Highest, Lowest, Without};
 
 // Bit i of a mask: 1 if it has job i, else 0.
+#[tactic(auto, unfolding(laws::specs::Bits::bit))]
 pub fn bit(m: u16, i: usize) -> u8
     requires { i < 16 }
     ensures { result ≡ bit m i }
@@ -19,7 +20,7 @@ pub fn lowest(m: u16) -> usize
     requires { 0 < m }
     ensures { (result < 16) × Lowest m result }
 {
-    u16::trailing_zeros(m) as usize
+    m.trailing_zeros() as usize
 }
 
 // The place of the highest job of a mask.
@@ -27,7 +28,7 @@ pub fn highest(m: u16) -> usize
     requires { 0 < m }
     ensures { (result < 16) × Highest m result }
 {
-    (u16::leading_zeros(m) ^ 15) as usize
+    m.ilog2() as usize
 }
 
 // The mask with job i, if it is to be added; else the mask.
@@ -35,10 +36,7 @@ pub fn with(m: u16, i: usize, add: bool) -> u16
     requires { i < 16 }
     ensures { result ≡ cond add (bit_or m (2 ^ i)) m }
 {
-    if add {
-        return m | power(i);
-    }
-    m
+    if add { m | power(i) } else { m }
 }
 
 // The mask of one job.
@@ -46,12 +44,12 @@ pub fn power(i: usize) -> u16
     requires { i < 16 }
     ensures { result ≡ 2 ^ i }
 {
-    1u16 << i
+    1 << i
 }
 
 // The jobs of a that b has not.
 pub fn without(a: u16, b: u16) -> u16
     ensures { Without a b result }
 {
-    a ^ (a & b)
+    a & !b
 }

@@ -1,5 +1,5 @@
-pub mod Shapes
-pub mod Moments
+pub mod Jobs
+pub mod Links
 pub mod Steps
 pub mod Laws
 pub mod Masks

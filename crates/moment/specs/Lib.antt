@@ -1,3 +1,4 @@
+pub mod Jobs
 pub mod Shapes
 pub mod Moments
 pub mod Laws

@@ -1,20 +1,15 @@
--- `highest` meets its contract: the leading zeros of a 16-bit mask and the place of its highest bit make 15.
-use Prim.Native.Nat.{◌<◌}
-use native.Mathlib.Omega.{arith}
-use lib.Bits.{bit_xor}
-use lib.Count.{count_leading_zeros, leading_top}
-use Rattle.laws.specs.Words.{Highest}
-use Rattle.laws.proofs.Words.{leading_highest, xor_ones}
+-- `highest` meets its contract: a mask from 2 ^ i to below its double has bit i, and none above it.
+use Rattle.std.proofs.Common.{◌≡◌, ◌^◌, ◌/◌, ◌%◌, suc, arith, ap}
+use native.Mathlib.Nat.{div-eq_of_lt-le, pow-suc}
+use Rattle.laws.specs.Bits.{bit}
+use Rattle.laws.proofs.Bits.{bit_beyond}
 use Rattle.masks.proofs.highest.Goals as goal
-use Rattle.masks.proofs.highest.Goals.{Start}
-
-place : (c : Start) → let i = bit_xor (count_leading_zeros 16 c.args.m) 15 in (i < 16) × Highest c.args.m i
-place c = let m = c.args.m in
-    let t = leading_top 16 m c.requires c.ranges.m.fits in
-    rw (xor_ones (count_leading_zeros 16 m) 4 (omega arith)) (omega arith, leading_highest 16 m c.requires c.ranges.m.fits)
-
-pub overflow_cast-result : goal.overflow_cast-result
-overflow_cast-result c = let p = place (goal.at.overflow_cast-result c).Start in omega arith
 
 pub returns : goal.returns
-returns c = place (goal.at.returns c).Start
+unfolding bit
+returns c =
+    let i = c.ilog2.result in
+    let one : c.args.m / 2 ^ i ≡ 1 = div-eq_of_lt-le {k = 1} (2 ^ i) (omega arith) (omega arith) in (
+      c.ilog2.ensures.bound,
+      record { set = ap (λ x. x % 2) one; above = λ j l. bit_beyond c.args.m (suc i) j (omega (arith, pow-suc 2 i)) l },
+    )
