@@ -1,84 +1,83 @@
--- Laws for the loops of the check: what a turn adds, and what the end says.
---   holds, fails                    a verdict, from what it came to
---   least_found, least_none         a search for the least bad entry ends at it, or finds none
---   first_found, first_none         so does one where there may be too many of them,
---   first_many, many_links          and one where there are
---   multiple_next                   the least common multiple with one more number
---   next_long                       where that passes 4,096
---   within_all, within_limits       where all jobs are within 4,096, H is their multiple; within the limits they are
+-- Laws for the parts of the check.
+--   fails, holds                what the negation of a verdict says
+--   least_bad                   a search through n entries by such tests ends at the least bad one
+--   first_bad                   so it does where there may be too many of them;
+--   many_sections, many_links   and where there are too many
+--   multiple_next               the least common multiple with one more number
+--   next_long                   where that passes 4,096
+--   within_limits               within the limits no job does
 use Prim.Native.Nat.{ℕ, ◌+◌, ◌≤◌, ◌<◌, ◌%◌}
 use native.Mathlib.Omega.{arith}
-use mathlib.Core.Path.{◌≡◌, refl, subst, ap}
-use mathlib.Core.Logic.{⊎_elim}
+use borrow.Author.Rules.{rules}
+use mathlib.Core.Path.{◌≡◌, refl, subst}
 use mathlib.Core.Bool.{Bool, true, false, not}
-use Rattle.laws.specs.Loops.{Through}
-use Rattle.laws.specs.Multiples.{LeastCommon}
-use Rattle.laws.proofs.Loops.{through_all}
-use Rattle.laws.proofs.Tests.{T_of, lt_or_le}
+use denote.Param.Members.{Mut}
+use denote.Ref.{Bor}
+use Rattle.std.proofs.lemmas.Iterator.{YieldsList-from_range, first_from_find}
+use Rattle.std.proofs.lemmas.List.FromFn.{get_or-range_with_len, length-range_with_len}
+use Rattle.std.specs.Fn.{CalledAt}
+use Rattle.std.proofs.iter.Yields.{nat_range_steps}
+use Rattle.std.specs.Iterator.{FindsItem}
+use Rattle.std.specs.declared.ops.Range.{Range}
+use Rattle.std.specs.List.{range_with_len, AllWithin, HoldsAt}
+use Rattle.std.specs.Option.{MatchOption}
+use Rattle.std.specs.Prelude.{Option, None, Some, length}
+use Rattle.laws.proofs.Tests.{T_of}
 use Rattle.laws.proofs.Multiples.{least_more_times}
 use Rattle.paper.specs.declared.Room.{Room}
-use Rattle.paper.specs.Room.{EachJobFits, Multiple, Limits, GoodLink, link, period}
+use Rattle.paper.specs.Room.{EachJobFits, Multiple, GoodSection, GoodLink, section, link, period}
 use Rattle.paper.specs.Reply.{LeastBad, FirstBad, many, one, Passes}
-use Rattle.paper.proofs.Uniques.{passes_long}
-use Rattle.room.specs.Checks.{Verdict, Search, LeastMultiple, JobsWithin}
+use Rattle.room.specs.Checks.{Verdict, LeastMultiple}
 
 -- ---- Bad entries
 
-module _ {fits : Bool} {P : Type 0} (v : Verdict fits P) where
-  pub holds : fits ≡ true → P
-  holds e = v.yes (T_of fits e)
+module _ {P : Type 0} where
+  pub fails : {fits : Bool} → Verdict fits P → not fits ≡ true → ¬ P
+  fails {fits} v e = v.no (T_of (not fits) e)
 
-  pub fails : fits ≡ false → ¬ P
-  fails e = v.no (T_of (not fits) (ap not e))
+  pub holds : {fits : Bool} → Verdict fits P → not fits ≡ false → P
+  holds {fits} v e = v.yes (T_of fits (search rules))
 
-module _ {Fine : ℕ → Type 0} {n i : ℕ} (t : Through Fine n i) where
-  pub least_found : i < n → ¬ Fine i → Search (LeastBad Fine n) ((k : ℕ) → k < n → Fine k) n i
-  least_found l b = record { found = λ _. record { below = l; bad = b; earlier = t.each }; none = λ g. absurd (omega arith) }
+module _ (Fine : ℕ → Type 0) (n : ℕ) where
+  listed : (k : ℕ) → k < n → AllWithin Fine (range_with_len 0 n) 0 (k + 1) → Fine k
+  listed k l h = subst Fine (omega (arith, get_or-range_with_len 0 n k 0 l)) (h k 0 (omega arith) (omega arith))
 
-  pub least_none : n ≤ i → Search (LeastBad Fine n) ((k : ℕ) → k < n → Fine k) n i
-  least_none g = record { found = λ l. absurd (omega arith); none = λ _. through_all t g }
+  least_listed : (r : Option ℕ)
+      → MatchOption r (AllWithin Fine (range_with_len 0 n) 0 (length (range_with_len 0 n)))
+      (λ x. (¬ Fine x) × (i : ℕ) × (i < length (range_with_len 0 n)) × HoldsAt (λ y. y ≡ x) (range_with_len 0 n) i × AllWithin Fine (range_with_len 0 n) 0 i)
+      → MatchOption r ((k : ℕ) → k < n → Fine k) (LeastBad Fine n)
+  least_listed None h = λ k l. listed k l (λ j d g b. h j d g (omega (arith, length-range_with_len 0 n)))
+  least_listed (Some x) (bad, i, l, at, before) =
+      let m : i < n = omega (arith, length-range_with_len 0 n) in
+      let e : i ≡ x = omega (arith, get_or-range_with_len 0 n i 0 m, at 0) in
+      record { below = omega arith; bad = bad; earlier = λ k b. listed k (omega arith) (λ j d g h. before j d g (omega arith)) }
 
-  module _ {most : ℕ} (few : n ≤ most) where
-    first_of : Search (LeastBad Fine n) ((k : ℕ) → k < n → Fine k) n i → Search (FirstBad Fine n most) ((n ≤ most) × ((k : ℕ) → k < n → Fine k)) n i
-    first_of s = record { found = λ l. one few (s.found l); none = λ e. (few, s.none e) }
+  module _ {F : Type 0} {g : Mut F (Bor ℕ × Unit {0}) Bool} {f : F} (u : Range ℕ) (r : Option ℕ) {end : ℕ} (all : end ≡ n) where
+    pub least_bad : FindsItem nat_range_steps g (record { start = 0; end = end }) f r u → ((x : ℕ) (q : F) → CalledAt g f x true q → ¬ Fine x)
+        → ((x : ℕ) (q : F) → CalledAt g f x false q → (q ≡ f) × Fine x) → MatchOption r ((k : ℕ) → k < n → Fine k) (LeastBad Fine n)
+    least_bad ran bad fine = least_listed r (first_from_find _ f r (λ i. ¬ Fine i) Fine ran (YieldsList-from_range 0 end n refl (omega arith)) bad fine)
 
-    pub first_found : i < n → ¬ Fine i → Search (FirstBad Fine n most) ((n ≤ most) × ((k : ℕ) → k < n → Fine k)) n i
-    first_found l b = first_of (least_found l b)
+  pub first_bad : (most : ℕ) (r : Option ℕ) → n ≤ most → MatchOption r ((k : ℕ) → k < n → Fine k) (LeastBad Fine n)
+      → MatchOption r ((n ≤ most) × ((k : ℕ) → k < n → Fine k)) (FirstBad Fine n most)
+  first_bad most None few h = (few, h)
+  first_bad most (Some i) few h = one few h
 
-    pub first_none : n ≤ i → Search (FirstBad Fine n most) ((n ≤ most) × ((k : ℕ) → k < n → Fine k)) n i
-    first_none g = first_of (least_none g)
+module _ {room : Room} where
+  pub many_sections : 32 < room.sections → FirstBad (λ q. GoodSection room (section room q)) room.sections 32 32
+  many_sections l = many l refl
 
-pub first_many : {Fine : ℕ → Type 0} {n most : ℕ} → most < n → Search (FirstBad Fine n most) ((n ≤ most) × ((k : ℕ) → k < n → Fine k)) n most
-first_many l = record { found = λ _. many l refl; none = λ g. absurd (omega arith) }
-
-pub many_links : {room : Room} → 16 < room.links → FirstBad (λ k. GoodLink room (link room k)) room.links 16 16
-many_links l = many l refl
+  pub many_links : 16 < room.links → FirstBad (λ q. GoodLink room (link room q)) room.links 16 16
+  many_links l = many l refl
 
 -- ---- H
 
-pub multiple_next : {f : ℕ → ℕ} {n h m : ℕ} → LeastCommon f n h → LeastMultiple h (f n) m → LeastCommon f (n + 1) m
-multiple_next {f} {n} {h} {m} a l =
-    rw l.same (least_more_times a l.times l.some (subst (λ (x : ℕ). x % f n ≡ 0) l.same l.divided) l.least)
+pub multiple_next : (room : Room) {i h m : ℕ} → (EachJobFits room → Multiple room i h) → (0 < period room i → LeastMultiple h (period room i) m) → i < room.jobs
+    → EachJobFits room → Multiple room (i + 1) m
+multiple_next room {i} {h} {m} u p l good =
+    let j = good i l in
+    let n = p (omega arith) in
+    rw n.same (least_more_times (u good) n.times n.some (subst (λ (x : ℕ). x % period room i ≡ 0) n.same n.divided) n.least)
 
-pub next_long : {room : Room} {i h m : ℕ} → (EachJobFits room → Multiple room i h) → h ≤ 4096 → (0 < period room i → LeastMultiple h (period room i) m) → i < room.jobs → 4096 < m
+pub next_long : (room : Room) {i h m : ℕ} → (EachJobFits room → Multiple room i h) → h ≤ 4096 → (0 < period room i → LeastMultiple h (period room i) m) → i < room.jobs → 4096 < m
     → EachJobFits room → Passes room i
-next_long {room} {i} {h} {m} u s p l g good = record {
-  known = l;
-  h = h;
-  until = u good;
-  short = s;
-  h' = m;
-  with = let j = good i l in multiple_next (u good) (p (omega arith));
-  long = g;
-}
-
-module _ {room : Room} {i h : ℕ} (w : JobsWithin room i h) where
-  pub within_all : room.jobs ≤ i → Multiple room room.jobs h
-  within_all l = let e : i ≡ room.jobs = omega arith in rw e at w.multiple
-
-  pub within_limits : Limits room → Multiple room room.jobs h
-  within_limits limits =
-      ⊎_elim
-      (λ (l : i < room.jobs). absurd (omega (arith, passes_long (w.passes l) limits.multiple, limits.short)))
-      within_all
-      (lt_or_le i room.jobs)
+next_long room u s p l g good = record { known = l; h = _; until = u good; short = s; h' = _; with = multiple_next room u p l good; long = g }
