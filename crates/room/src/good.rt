@@ -53,14 +53,14 @@ pub struct TimedRoom {
 }
 
 impl Model for TimedRoom {
-    ghost use Rattle.paper.specs.Room.{Clock};
+    ghost use Rattle.paper.specs.Room.{Limits, Clock};
     ghost use Rattle.room.specs.Good.{Timed};
 
     ghost Value = { Timed };
 
     ghost view = { λ a. record { room = a.room; times = a.times } };
 
-    ghost invariant = { λ a. Clock a.room a.times };
+    ghost invariant = { λ a. Limits a.room × Clock a.room a.times };
 
     ghost inverse = { λ timed. record { room = timed.room; times = timed.times } };
 }
@@ -78,7 +78,9 @@ impl TimedRoom {
 
     // The room.
     pub fn room(&self) -> &GoodRoom
-        ensures { result.now ≡ self.now.room }
+        ensures room { result.now ≡ self.now.room }
+        ensures limits { Limits self.now.room }
+        ensures clock { Clock self.now.room self.now.times }
     {
         &self.room
     }
