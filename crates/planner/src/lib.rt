@@ -3,156 +3,122 @@
 
 ghost use Rattle.std.specs.Prelude.{◌≡◌};
 ghost use Rattle.paper.specs.Reply.{zeros, CheckReply, PlanReply, JudgeReply};
+ghost use Rattle.explore.specs.Exploring.{Cleared};
 ghost use Rattle.follow.specs.Pasts.{Given};
-ghost use Rattle.planner.specs.Calls.{Admitted, Admits, Decides, PlanAnswers, JudgeAnswers};
+ghost use Rattle.planner.specs.Calls.{Admits, Settles, PlanAnswers, JudgeAnswers, Plans, Judges};
 
-use explore::Exploration;
-use follow::Followed;
-use paper::{Checked, Judged, Planned, Room, Times, Undecided};
+use paper::{Judged, Planned, Refusal, Room, Undecided};
+use room::good::TimedRoom;
+use table::Table;
 
 // The longest table: a longer one is refused.
 const MOST: usize = 4194304;
 
-// Whether a room may be explored in a table, or why it stays undecided.
-#[derive(Clone, Copy)]
-enum Admission {
-    Admitted,
-    Undecided(Undecided),
-}
-
-// A decided room: its times, the table's capacity and the count; or why it stays undecided.
-#[derive(Clone, Copy)]
-enum Decision {
-    Decided { times: Times, w: usize, n: usize },
-    Undecided(Undecided),
-}
-
-// Every exit after TABLE: the lent table all zeros.
-fn leave(lent: &mut [u64])
-    ensures { lent.new ≡ zeros lent.old }
-{
-    table::clear(lent);
-}
-
-// The tests before ROOM: 3 to 8, then TABLE.
-#[tactic(auto, using(crate::proofs::Calls::long_undecides))]
-fn admit(room: Room, table: &[u64]) -> Admission
-    ensures { Admits room table.now result }
-{
-    let checked = room::check(room);
-    if let Checked::Refused(refusal) = checked {
-        return Admission::Undecided(Undecided::Refused(refusal));
-    }
-    if MOST < table.len() {
-        return Admission::Undecided(Undecided::Table);
-    }
-    Admission::Admitted
-}
-
-// Explore an admitted room in the lent table and prune that; or ROOM.
-fn settle(room: Room, table: &mut [u64]) -> Decision
-    requires { Admitted room table.old }
-    ensures { Decides room table.old result table.new }
-{
-    table::clear(table);
-    let w = table::capacity(&table[..]);
-    let times = room::clock(room);
-    let exploration = explore::explore(room, times, table, w);
-    match exploration {
-        Exploration::All(n) => {
-            prune::prune(room, times, table, w, n);
-            Decision::Decided { times, w, n }
-        }
-        Exploration::Full => {
-            leave(table);
-            Decision::Undecided(Undecided::Room)
-        }
-    }
-}
-
-// Decide a room in the lent table, which is then pruned; where the room stays undecided, the table is left as the reply asks.
-fn decide(room: Room, table: &mut [u64]) -> Decision
-    ensures { Decides room table.old result table.new }
-{
-    let admission = admit(room, &table[..]);
-    match admission {
-        Admission::Admitted => settle(room, table),
-        Admission::Undecided(why) => Decision::Undecided(why),
-    }
-}
-
-// The plan of a decided room: NONE, SHORT, or the plan in its buffer.
-fn answer_plan(
-    room: Room,
-    times: Times,
-    table: &mut [u64],
-    w: usize,
-    n: usize,
-    plan: &mut [u16],
-) -> Planned
-    requires { Given room times table.old w n }
-    ensures { PlanAnswers room n plan.old result plan.new }
-{
-    if !states::lives(&table[..], w, 0) {
-        return Planned::None { count: n };
-    }
-    let turn = follow::find_turn(table, w, n);
-    if plan.len() < turn.length {
-        return Planned::Short { place: turn.length };
-    }
-    follow::lay_out(&table[..], w, n, plan, turn.length);
-    Planned::Good {
-        count: n,
-        prefix: turn.prefix,
-        cycle: turn.length - turn.prefix,
-    }
-}
-
-// The verdict on a past of a decided room.
-fn answer_past(room: Room, times: Times, table: &[u64], w: usize, n: usize, past: &[u16]) -> Judged
-    requires { Given room times table.now w n }
-    ensures { JudgeAnswers room n past.now result }
-{
-    let followed = follow::follow(room, times, table, w, n, past);
-    match followed {
-        Followed::Kept => Judged::Good { count: n },
-        Followed::Lost(place) => Judged::Out { count: n, place },
-    }
-}
-
 // Check a room.
-pub fn check(room: Room) -> Checked
+pub fn check(room: Room) -> Result<(), Refusal>
     ensures { CheckReply room result }
 {
     room::check(room)
 }
 
 // Plan a room: its plan in the lent buffer, or why there is none.
-pub fn plan(room: Room, table: &mut [u64], plan: &mut [u16]) -> Planned
+pub fn plan(room: Room, table: &mut [u64], plan: &mut [u16]) -> Result<Planned, Undecided>
     ensures { PlanReply room table.old plan.old result table.new plan.new }
 {
-    let decision = decide(room, table);
-    match decision {
-        Decision::Decided { times, w, n } => {
-            let planned = answer_plan(room, times, table, w, n, plan);
-            leave(table);
-            planned
-        }
-        Decision::Undecided(why) => Planned::Undecided(why),
-    }
+    let room = admit(room, table)?;
+    let planned = plan_in(&room, &mut Table::new(table), plan);
+    leave(table);
+    planned
 }
 
 // Judge a recorded past: whether it can go on without end, or where it was lost.
-pub fn judge(room: Room, table: &mut [u64], past: &[u16]) -> Judged
+pub fn judge(room: Room, table: &mut [u64], past: &[u16]) -> Result<Judged, Undecided>
     ensures { JudgeReply room past.now table.old result table.new }
 {
-    let decision = decide(room, table);
-    match decision {
-        Decision::Decided { times, w, n } => {
-            let judged = answer_past(room, times, &table[..], w, n, past);
-            leave(table);
-            judged
-        }
-        Decision::Undecided(why) => Judged::Undecided(why),
+    let room = admit(room, table)?;
+    let judged = judge_in(&room, &mut Table::new(table), past);
+    leave(table);
+    judged
+}
+
+// A room that passes the tests before ROOM, 3 to 8 and then TABLE; or the first that it does not.
+fn admit(room: Room, table: &[u64]) -> Result<TimedRoom, Undecided>
+    ensures { Admits room table.now result }
+{
+    let good = room::good::admit(room)?;
+    if MOST < table.len() {
+        return Err(Undecided::Table);
+    }
+    Ok(TimedRoom::of(good))
+}
+
+// Every exit after TABLE: the lent table all zeros.
+fn leave(lent: &mut [u64])
+    ensures { lent.new ≡ zeros lent.old }
+{
+    lent.fill(0);
+}
+
+// Plan a room in an empty table.
+fn plan_in(room: &TimedRoom, table: &mut Table<'_>, plan: &mut [u16]) -> Result<Planned, Undecided>
+    requires { Cleared table.old }
+    ensures { Plans room.now.room table.old plan.old result plan.new }
+{
+    settle(room, table)?;
+    Ok(answer_plan(room, table, plan))
+}
+
+// Judge a past of a room in an empty table.
+fn judge_in(room: &TimedRoom, table: &mut Table<'_>, past: &[u16]) -> Result<Judged, Undecided>
+    requires { Cleared table.old }
+    ensures { Judges room.now.room past.now table.old result }
+{
+    settle(room, table)?;
+    Ok(answer_past(room, table, past))
+}
+
+// Explore a room in an empty table and prune that; or ROOM.
+fn settle(room: &TimedRoom, table: &mut Table<'_>) -> Result<(), Undecided>
+    requires { Cleared table.old }
+    ensures { Settles room.now table.old result table.new }
+{
+    explore::explore(room, table)?;
+    prune::prune(room, table);
+    Ok(())
+}
+
+// The plan of a decided room: NONE, SHORT, or the plan in its buffer.
+fn answer_plan(room: &TimedRoom, table: &mut Table<'_>, plan: &mut [u16]) -> Planned
+    requires { Given room.now.room room.now.times table.old }
+    ensures { PlanAnswers room.now.room table.old.found plan.old result plan.new }
+{
+    let count = table.found();
+    if !states::lives(table, 0) {
+        return Planned::None { count };
+    }
+    let turn = follow::find_turn(table);
+    if plan.len() < turn.length {
+        return Planned::Short { place: turn.length };
+    }
+    follow::lay_out(table, plan, turn.length);
+    Planned::Good {
+        count,
+        prefix: turn.prefix,
+        cycle: turn.length - turn.prefix,
+    }
+}
+
+// The verdict on a past of a decided room.
+fn answer_past(room: &TimedRoom, table: &Table<'_>, past: &[u16]) -> Judged
+    requires { Given room.now.room room.now.times table.now }
+    ensures { JudgeAnswers room.now.room table.now.found past.now result }
+{
+    let count = table.found();
+    match follow::follow(room, table, past) {
+        Ok(()) => Judged::Good { count },
+        Err(lost) => Judged::Out {
+            count,
+            place: lost.beginning,
+        },
     }
 }
