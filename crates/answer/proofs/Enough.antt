@@ -9,13 +9,12 @@ use mathlib.Core.Logic.{⊎_elim}
 use mathlib.Core.List.{List}
 use lib.ListN.{length, take, length-take}
 use lib.Seq.{take_all}
+use Rattle.std.specs.Prelude.{Option, Ok, Err}
 use Rattle.laws.proofs.Tests.{lt_or_le}
 use Rattle.paper.specs.declared.Room.{Room}
 use Rattle.paper.specs.declared.Numbers.{Numbers}
-use Rattle.paper.specs.declared.Reading.{Reading}
-use Rattle.paper.specs.declared.Reading.TheVariants as reading
 use Rattle.paper.specs.Text.{FirstBadLine, Read}
-use Rattle.paper.specs.Reply.{ReadReply}
+use Rattle.paper.specs.Reply.{ReadAnswer, ReadReply}
 use Rattle.paper.proofs.Texts.{good_short}
 use Rattle.paper.proofs.BadLines.{bad_line_near}
 use Rattle.answer.specs.Calls.{OfText, broken, good}
@@ -37,15 +36,15 @@ module _ (text : List ℕ) where
       (λ (h : length text ≤ 648). subst (λ (l : List ℕ). FirstBadLine l k) (whole (omega arith)) b)
       (lt_or_le 648 (length text))
 
-  pub read_near : (room : Room) (r : Reading) → ReadReply (take 649 text) r room → ReadReply text r room
-  read_near room reading.Good x = good_near room x
-  read_near room (reading.Text i) x = (bad_near i x.0, x.1)
+  pub read_near : (r : ReadAnswer) → ReadReply (take 649 text) r → ReadReply text r
+  read_near (Ok room) x = good_near room x
+  read_near (Err b) x = bad_near b.place x
 
   of_near : {Of : Room → Numbers → Type 0} {Found : Type 0} {N : Numbers} → OfText (take 649 text) Of Found N → OfText text Of Found N
-  of_near (broken i room x e f) = broken i room (read_near room (reading.Text i) x) e f
-  of_near (good room x y) = good room (read_near room reading.Good x) y
+  of_near (broken b x e f) = broken b (read_near (Err b) x) e f
+  of_near (good room x y) = good room (read_near (Ok room) x) y
 
-  pub answer_near : {table₀ plan₀ lines₀ : List ℕ} {n : ℕ} {table plan lines : List ℕ}
+  pub answer_near : {table₀ plan₀ lines₀ : List ℕ} {n : Option ℕ} {table plan lines : List ℕ}
       → Answered (take 649 text) table₀ plan₀ lines₀ n table plan lines → Answered text table₀ plan₀ lines₀ n table plan lines
   answer_near a = record { numbers = a.numbers; says = of_near a.says; prints = a.prints }
 

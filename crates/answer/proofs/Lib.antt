@@ -1,4 +1,3 @@
-pub mod Calls
 pub mod Lines
 pub mod Enough
 pub mod One

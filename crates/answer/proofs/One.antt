@@ -3,17 +3,13 @@
 --   text_one        the reply to a text, where one is given to the room read
 --   check_one, plan_one, judge_one   the replies to checking, planning and judging the room of a text
 --   answer_one      the answer to a text
-use Prim.Native.Nat.{ℕ, ◌≤◌, ◌<◌}
+use Prim.Native.Nat.{ℕ}
 use native.Mathlib.Omega.{arith}
-use mathlib.Core.Path.{◌≡◌, sym, ap, ◌∙◌, subst}
-use mathlib.Core.Logic.{⊎_elim}
+use mathlib.Core.Path.{◌≡◌, refl, sym, ap, ◌∙◌, subst}
 use mathlib.Core.List.{List}
-use lib.ListN.{length}
-use Rattle.laws.proofs.Tests.{lt_or_le}
+use Rattle.std.specs.Prelude.{Option, Some, None, Ok, Err}
 use Rattle.paper.specs.declared.Room.{Room}
 use Rattle.paper.specs.declared.Numbers.{Numbers}
-use Rattle.paper.specs.declared.Reading.{Reading}
-use Rattle.paper.specs.declared.Reading.TheVariants as reading
 use Rattle.paper.specs.Reply.{reading_numbers}
 use Rattle.paper.proofs.Replies.{read_reply_one, check_reply_one, plan_reply_one, judge_reply_one}
 use Rattle.answer.specs.Calls.{OfAnswer, OfText, CheckOfText, PlanOfText, JudgeOfText, broken, good}
@@ -28,20 +24,15 @@ of_answer_one {numbers = numbers} one x y =
     let d = one x.answer y.answer x.promised y.promised in
     (x.told ∙ ap numbers d.0 ∙ sym y.told, d.1)
 
--- a text is broken or good, not both
-apart : {i : ℕ} → reading.Text i ≡ reading.Good → ⊥
-apart e = let s = ap (λ (r : Reading). (reading_numbers r).code) e in absurd (omega arith)
-
 module _ {text : List ℕ} {Of Of' : Room → Numbers → Type 0} {Found Found' Same : Type 0} {N N' : Numbers} (found : Found → Found' → Same)
     (one : (room : Room) → Of room N → Of' room N' → (N ≡ N') × Same) where
   pub text_one : OfText text Of Found N → OfText text Of' Found' N' → (N ≡ N') × Same
-  text_one (broken i room x e f) (broken i' room' x' e' f') =
-      let d = read_reply_one text (reading.Text i) (reading.Text i') room room' x x' in
-      (e ∙ ap reading_numbers d.0 ∙ sym e', found f f')
-  text_one (broken i room x e f) (good room' x' y') = absurd (apart (read_reply_one text (reading.Text i) reading.Good room room' x x').0)
-  text_one (good room x y) (broken i' room' x' e' f') = absurd (apart (read_reply_one text (reading.Text i') reading.Good room' room x' x).0)
+  text_one (broken b x e f) (broken b' x' e' f') = (e ∙ ap reading_numbers (read_reply_one text (Err b) (Err b') x x') ∙ sym e', found f f')
+  text_one (broken b x e f) (good room' x' y') = let d = read_reply_one text (Err b) (Ok room') x x' in absurd (cc)
+  text_one (good room x y) (broken b' x' e' f') = let d = read_reply_one text (Ok room) (Err b') x x' in absurd (cc)
   text_one (good room x y) (good room' x' y') =
-      one room' (subst (λ (q : Room). Of q N) (read_reply_one text reading.Good reading.Good room room' x x').1 y) y'
+      let d : room ≡ room' = let e = read_reply_one text (Ok room) (Ok room') x x' in cc in
+      one room' (subst (λ (q : Room). Of q N) d y) y'
 
 module _ (text : List ℕ) {N N' : Numbers} where
   pub check_one : CheckOfText text N → CheckOfText text N' → N ≡ N'
@@ -62,19 +53,18 @@ module _ (text : List ℕ) {N N' : Numbers} where
 
 -- ---- The lines
 
-prints_one : {lines buffer₀ buffer buffer' : List ℕ} {n n' : ℕ} → Prints lines buffer₀ n buffer → Prints lines buffer₀ n' buffer'
+prints_one : (lines buffer₀ : List ℕ) {buffer buffer' : List ℕ} (n n' : Option ℕ) → Prints lines buffer₀ n buffer → Prints lines buffer₀ n' buffer'
     → (n ≡ n') × (buffer ≡ buffer')
-prints_one {lines} {buffer₀} p q =
-    ⊎_elim
-    (λ (h : length buffer₀ < length lines). ((p.short h).0 ∙ sym (q.short h).0, (p.short h).1 ∙ sym (q.short h).1))
-    (λ (h : length lines ≤ length buffer₀). ((p.fits h).0 ∙ sym (q.fits h).0, (p.fits h).1 ∙ sym (q.fits h).1))
-    (lt_or_le (length buffer₀) (length lines))
+prints_one _ _ (Some n) (Some n') p q = (ap Some (p.1 ∙ sym q.1), p.2 ∙ sym q.2)
+prints_one _ _ (Some n) None p q = absurd (omega arith)
+prints_one _ _ None (Some n') p q = absurd (omega arith)
+prints_one _ _ None None p q = (refl, p.1 ∙ sym q.1)
 
-pub answer_one : {text table₀ plan₀ lines₀ table plan lines table' plan' lines' : List ℕ} {n n' : ℕ}
+pub answer_one : {text table₀ plan₀ lines₀ table plan lines table' plan' lines' : List ℕ} {n n' : Option ℕ}
     → Answered text table₀ plan₀ lines₀ n table plan lines → Answered text table₀ plan₀ lines₀ n' table' plan' lines'
     → (n ≡ n') × (table ≡ table') × (plan ≡ plan') × (lines ≡ lines')
-answer_one {text} {table₀} {plan₀} {lines₀} {lines = lines} {n = n} a b =
+answer_one {text} {table₀} {plan₀} {lines₀} {lines = lines} {n = n} {n' = n'} a b =
     let e = plan_one text table₀ plan₀ a.says b.says in
     let l : printed a.numbers _ ≡ printed b.numbers _ = λ i. printed (e.0 i) (e.2 i) in
-    let p = prints_one (subst (λ (k : List ℕ). Prints k lines₀ n lines) l a.prints) b.prints in
+    let p = prints_one _ lines₀ n n' (subst (λ (k : List ℕ). Prints k lines₀ n lines) l a.prints) b.prints in
     (p.0, e.1, e.2, p.1)

@@ -1,72 +1,45 @@
 -- The program's answer: a plan is no longer than the count, which the table holds; so with as many slots as configurations no plan is too long.
---   answer_fits           the lines of every answer have at most 10,784 bytes
---   text_answered         so a text is answered in buffers of the program's sizes
---   text_within           and the bytes of the answer lie in theirs
 --   program_one           one answer
---   input_answered        an input is answered by a buffer of its first 649 bytes
---   input_within          and the bytes of that answer lie in theirs
+--   input_answered        an input is answered by its first 649 bytes
 --   program_never_short   it is never SHORT
 use Prim.Native.Nat.{ℕ, ◌≤◌, ◌<◌}
 use native.Mathlib.Omega.{arith}
-use mathlib.Core.Path.{◌≡◌, sym, ap, ◌∙◌, subst}
+use mathlib.Core.Path.{◌≡◌, refl, sym, ap, ◌∙◌, subst}
 use mathlib.Core.Logic.{◌≢◌}
 use mathlib.Core.List.{List}
 use lib.ListN.{length, take, drop, length-take, length-append, length-replicate}
-use lib.Seq.{take_all}
+use Rattle.std.specs.Prelude.{Ok, Err}
 use Rattle.paper.specs.declared.Room.{Room}
 use Rattle.paper.specs.declared.Numbers.{Numbers}
 use Rattle.paper.specs.declared.Refusal.{Refusal}
 use Rattle.paper.specs.declared.Refusal.TheVariants as refusal
 use Rattle.paper.specs.declared.Undecided.{Undecided}
 use Rattle.paper.specs.declared.Undecided.TheVariants as undecided
-use Rattle.paper.specs.declared.Planned.{Planned}
 use Rattle.paper.specs.declared.Planned.TheVariants as planned
-use Rattle.paper.specs.Reply.{refusal_numbers, undecided_numbers, planned_numbers, W, written, PlanShort, PlanReply}
+use Rattle.paper.specs.Reply.{refusal_numbers, undecided_numbers, planned_numbers, W, written, PlanAnswer, PlanShort, PlanReply}
 use Rattle.paper.specs.Answer.{program_slots}
+use Rattle.paper.proofs.Refusals.{refused_slots}
 use Rattle.paper.proofs.Uniques.{plan_feasible, plan_one as room_plan_one}
 use Rattle.paper.proofs.Plans.{plan_exists}
 use Rattle.answer.specs.Calls.{PlanOfText, broken, good}
-use Rattle.answer.specs.Lines.{plan_slots, printed, Answered, program_table, program_plan, TextAnswered, InputAnswered}
-use Rattle.answer.proofs.Lines.{answer_length, slots_within}
+use Rattle.answer.specs.Lines.{plan_slots, printed, program_table, program_plan, TextAnswered, InputAnswered}
 use Rattle.answer.proofs.Enough.{text_near}
 use Rattle.answer.proofs.One.{plan_one}
 
--- ---- Room for every answer
+-- ---- One answer
 
-module _ {text : List ℕ} where
-  answer_fits : {table plan : List ℕ} {N : Numbers} → PlanOfText text program_table program_plan table plan N → length (printed N plan) ≤ 10784
-  unfolding printed
-  answer_fits {plan = plan} {N = N} p =
-      omega (arith, slots_within p, length-replicate {A = ℕ} program_slots 0, answer_length N (take (plan_slots N) plan), length-take (plan_slots N) plan)
-
-  pub text_answered : {table plan lines₀ lines : List ℕ} {n : ℕ} → 10784 ≤ length lines₀
-      → Answered text program_table program_plan lines₀ n table plan lines → TextAnswered text lines₀ n lines
-  text_answered {table} {plan} h a =
-      let f = a.prints.fits (omega (arith, answer_fits a.says)) in
-      record { numbers = a.numbers; table = table; plan = plan; says = a.says; place = f.0; same = f.1 }
-
-  module _ {lines₀ lines : List ℕ} {n : ℕ} (a : TextAnswered text lines₀ n lines) where
-    pub text_within : n ≤ length lines
-    text_within =
-        let l = printed a.numbers a.plan in
-        omega (arith, a.place, ap length a.same, length-append l (drop (length l) lines₀))
-
-    pub program_one : {lines' : List ℕ} {n' : ℕ} → TextAnswered text lines₀ n' lines' → (n ≡ n') × (lines ≡ lines')
-    program_one b =
-        let e = plan_one text program_table program_plan a.says b.says in
-        let l : printed a.numbers a.plan ≡ printed b.numbers b.plan = λ i. printed (e.0 i) (e.2 i) in
-        (a.place ∙ ap length l ∙ sym b.place, a.same ∙ ap (λ (k : List ℕ). written k lines₀) l ∙ sym b.same)
+pub program_one : {text lines₀ lines lines' : List ℕ} {n n' : ℕ} → TextAnswered text lines₀ n lines → TextAnswered text lines₀ n' lines'
+    → (n ≡ n') × (lines ≡ lines')
+program_one {text} {lines₀} a b =
+    let e = plan_one text program_table program_plan a.says b.says in
+    let l : printed a.numbers a.plan ≡ printed b.numbers b.plan = λ i. printed (e.0 i) (e.2 i) in
+    (a.place ∙ ap length l ∙ sym b.place, a.same ∙ ap (λ (k : List ℕ). written k lines₀) l ∙ sym b.same)
 
 -- ---- The first 649 bytes
 
-pub input_answered : (input : List ℕ) (read : ℕ) {part lines₀ lines : List ℕ} {n : ℕ} → length input ≡ 649 → part ≡ take read input
-    → TextAnswered part lines₀ n lines → InputAnswered input read lines₀ n lines
-input_answered input read {lines₀ = lines₀} {lines = lines} {n = n} l e a text h =
-    let f : take 649 text ≡ take read input = ap (λ (k : ℕ). take k text) (sym l) ∙ h in
-    text_near text (subst (λ (t : List ℕ). TextAnswered t lines₀ n lines) (e ∙ sym f) a)
-
-pub input_within : (input : List ℕ) (read : ℕ) {lines₀ lines : List ℕ} {n : ℕ} → InputAnswered input read lines₀ n lines → n ≤ length lines
-input_within input read a = text_within (a (take read input) (take_all (length input) (take read input) (omega (arith, length-take read input))))
+pub input_answered : (input : List ℕ) {lines₀ lines : List ℕ} {n : ℕ} → TextAnswered (take 649 input) lines₀ n lines → InputAnswered input lines₀ n lines
+input_answered input {lines₀ = lines₀} {lines = lines} {n = n} a text h =
+    text_near text (subst (λ (t : List ℕ). TextAnswered t lines₀ n lines) (sym h) a)
 
 -- ---- Never SHORT
 
@@ -93,15 +66,15 @@ undecided_code undecided.Table = omega arith
 undecided_code undecided.Room = omega arith
 
 -- W configurations fit into the table, and as many slots into the plan buffer
-planned_code : {room : Room} {table₀ plan₀ table plan : List ℕ} → W table₀ ≤ length plan₀ → (r : Planned) → PlanReply room table₀ plan₀ r table plan
+planned_code : {room : Room} {table₀ plan₀ table plan : List ℕ} → W table₀ ≤ length plan₀ → (r : PlanAnswer) → PlanReply room table₀ plan₀ r table plan
     → (planned_numbers r).code < 11
-planned_code h (planned.Good n a c) x = omega arith
-planned_code h (planned.None n) x = omega arith
-planned_code h (planned.Undecided d) x = undecided_code d
-planned_code h (planned.Short i) x = let k = short_buffer x.says.0 in absurd (omega arith)
+planned_code h (Ok (planned.Good n a c)) x = omega arith
+planned_code h (Ok (planned.None n)) x = omega arith
+planned_code h (Ok (planned.Short i)) x = let k = short_buffer x.says.0 in absurd (omega arith)
+planned_code h (Err d) x = undecided_code d
 
 program_code : {text table plan : List ℕ} {N : Numbers} → PlanOfText text program_table program_plan table plan N → N.code < 11
-program_code (broken i room x e f) = omega (arith, ap (λ (N : Numbers). N.code) e)
+program_code (broken b x e f) = omega (arith, ap (λ (N : Numbers). N.code) e)
 program_code (good room x y) =
     let h : W program_table ≤ length program_plan = omega (arith, length-replicate {A = ℕ} 6144 0, length-replicate {A = ℕ} program_slots 0) in
     omega (arith, ap (λ (N : Numbers). N.code) y.told, planned_code h y.answer y.promised)

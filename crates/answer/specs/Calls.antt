@@ -2,10 +2,10 @@
 --   OfAnswer      the numbers of an answer that keeps a promise
 --   OfText        the numbers of the reply to a text: to its first bad line, or to the room read
 --   CheckOfText, PlanOfText, JudgeOfText   the replies of checking, planning and judging
-use Rattle.std.specs.Prelude.{ℕ, ◌≡◌, List}
+use Rattle.std.specs.Prelude.{ℕ, ◌≡◌, List, Ok, Err}
 use Rattle.paper.specs.declared.Room.{Room}
 use Rattle.paper.specs.declared.Numbers.{Numbers}
-use Rattle.paper.specs.declared.Reading.TheVariants as reading
+use Rattle.paper.specs.declared.BadLine.{BadLine}
 use Rattle.paper.specs.Reply.{checked_numbers, planned_numbers, judged_numbers, reading_numbers, ReadReply, CheckReply, PlanReply, JudgeReply}
 
 -- some answer keeps the promise, and N are its numbers
@@ -14,11 +14,10 @@ pub record OfAnswer {A : Type 0} (numbers : A → Numbers) (Promised : A → Typ
   pub promised : Promised answer
   pub told : N ≡ numbers answer
 
--- the text is broken at line i and Found holds; or a room is read, and N are the numbers of Of
+-- the text has a first bad line and Found holds; or a room is read, and N are the numbers of Of
 pub data OfText (text : List ℕ) (Of : Room → Numbers → Type 0) (Found : Type 0) : Numbers → Type 0 where
-  broken : {N : Numbers} (i : ℕ) (room : Room) → ReadReply text (reading.Text i) room → N ≡ reading_numbers (reading.Text i) → Found
-      → OfText text Of Found N
-  good : {N : Numbers} (room : Room) → ReadReply text reading.Good room → Of room N → OfText text Of Found N
+  broken : {N : Numbers} (bad : BadLine) → ReadReply text (Err bad) → N ≡ reading_numbers (Err bad) → Found → OfText text Of Found N
+  good : {N : Numbers} (room : Room) → ReadReply text (Ok room) → Of room N → OfText text Of Found N
 
 -- of checking
 abbrev pub CheckOfText : List ℕ → Numbers → Type 0

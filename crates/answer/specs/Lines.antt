@@ -1,16 +1,19 @@
 -- What is promised of the lines that the program prints.
 --   plan_slots   how many slots the plan of a reply has: prefix and cycle on GOOD, none on any other code
 --   two         the two numbers after the count
+--   slot_lines   the lines of a plan's slots
 --   printed     the lines for a reply and the plan buffer that it leaves
---   Prints      lines put at the start of a buffer, and their length; where they do not fit, 0 and the buffer as found
+--   Prints      lines put at the start of a buffer, and their length; or the buffer as found, where they do not fit
 --   Answered    a room text answered: planned, and the lines of the reply put into a buffer
 --   program_table, program_plan   the table and the plan buffer that the program uses
 --   TextAnswered                a room text answered with them
---   InputAnswered               an input answered, of which a buffer has the first bytes
-use Rattle.std.specs.Prelude.{ℕ, ◌+◌, ◌*◌, ◌≤◌, ◌<◌, ◌≡◌, cond, List, [], ◌∷◌, length, take, replicate, eqb}
+--   InputAnswered               an input answered, by its first 649 bytes
+use Rattle.std.specs.Prelude.{ℕ, ◌+◌, ◌*◌, ◌≤◌, ◌<◌, ◌≡◌, cond, Option, Some, None, List, [], ◌∷◌, length, take, replicate, eqb}
+use mathlib.Core.List.{map, flatten}
 use Rattle.paper.specs.declared.Numbers.{Numbers}
+use Rattle.paper.specs.Text.{line}
 use Rattle.paper.specs.Reply.{written}
-use Rattle.paper.specs.Answer.{answer, program_configurations, program_slots}
+use Rattle.paper.specs.Answer.{answer, slot_frame, program_configurations, program_slots}
 use Rattle.answer.specs.Calls.{PlanOfText}
 
 abbrev pub plan_slots : Numbers → ℕ
@@ -20,14 +23,17 @@ plan_slots N = N.prefix + N.cycle
 abbrev pub two : Numbers → List ℕ
 two N = cond (eqb N.code 0) (N.prefix ∷ N.cycle ∷ []) (N.place ∷ 0 ∷ [])
 
+abbrev pub slot_lines : List ℕ → List ℕ
+slot_lines masks = flatten (map (λ m. line (slot_frame m)) masks)
+
 unfoldable pub printed : Numbers → List ℕ → List ℕ
 printed N plan = answer N (take (plan_slots N) plan)
 
-pub record Prints (lines buffer₀ : List ℕ) (n : ℕ) (buffer : List ℕ) : Type 0 where
-  pub fits : length lines ≤ length buffer₀ → (n ≡ length lines) × (buffer ≡ written lines buffer₀)
-  pub short : length buffer₀ < length lines → (n ≡ 0) × (buffer ≡ buffer₀)
+abbrev pub Prints : List ℕ → List ℕ → Option ℕ → List ℕ → Type 0
+Prints lines buffer₀ (Some n) buffer = (length lines ≤ length buffer₀) × (n ≡ length lines) × (buffer ≡ written lines buffer₀)
+Prints lines buffer₀ None buffer = (length buffer₀ < length lines) × (buffer ≡ buffer₀)
 
-pub record Answered (text table₀ plan₀ lines₀ : List ℕ) (n : ℕ) (table plan lines : List ℕ) : Type 0 where
+pub record Answered (text table₀ plan₀ lines₀ : List ℕ) (n : Option ℕ) (table plan lines : List ℕ) : Type 0 where
   pub numbers : Numbers
   pub says : PlanOfText text table₀ plan₀ table plan numbers
   pub prints : Prints (printed numbers plan) lines₀ n lines
@@ -48,6 +54,6 @@ pub record TextAnswered (text lines₀ : List ℕ) (n : ℕ) (lines : List ℕ) 
   pub place : n ≡ length (printed numbers plan)
   pub same : lines ≡ written (printed numbers plan) lines₀
 
--- the bytes read are all of a text, or as many of its first as the buffer holds
-abbrev pub InputAnswered : List ℕ → ℕ → List ℕ → ℕ → List ℕ → Type 0
-InputAnswered input read lines₀ n lines = (text : List ℕ) → take (length input) text ≡ take read input → TextAnswered text lines₀ n lines
+-- the answer to every text that has the input's first 649 bytes
+abbrev pub InputAnswered : List ℕ → List ℕ → ℕ → List ℕ → Type 0
+InputAnswered input lines₀ n lines = (text : List ℕ) → take 649 text ≡ take 649 input → TextAnswered text lines₀ n lines

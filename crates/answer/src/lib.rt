@@ -1,15 +1,14 @@
 // The answer to a room text: the numbers of the planner's reply, and the lines that the program prints for it.
 #![tactic(auto)]
 
-ghost use Rattle.std.specs.Prelude.{◌+◌, ◌*◌, ◌≤◌, ◌≡◌, ◌↔◌, length, take, T};
-ghost use mathlib.Core.List.{map, flatten};
-ghost use Rattle.paper.specs.Text.{line};
-ghost use Rattle.paper.specs.Answer.{four_bytes, answer_frame, slot_frame};
+ghost use Rattle.std.specs.Prelude.{◌+◌, ◌*◌, ◌≤◌, ◌≡◌, length, take};
+ghost use Rattle.paper.specs.Answer.{four_bytes, answer_frame, slot_frame, answer};
 ghost use Rattle.digits.specs.Digits.{Puts};
 ghost use Rattle.answer.specs.Calls.{CheckOfText, PlanOfText, JudgeOfText};
-ghost use Rattle.answer.specs.Lines.{plan_slots, two, printed, Prints, Answered, TextAnswered, InputAnswered};
+ghost use Rattle.answer.specs.Lines.{plan_slots, two, slot_lines, Answered, TextAnswered, InputAnswered};
 
-use paper::{Numbers, Reading};
+use paper::Numbers;
+use reply::Told;
 
 // The first bytes of an input that tell its answer: no room text is longer than 648.
 pub const INPUT: usize = 649;
@@ -27,12 +26,10 @@ pub fn check_of(text: &[u8]) -> Numbers
     ensures { CheckOfText text.now result }
 {
     let read = text::read(text);
-    let reading = read.reply;
-    if let Reading::Text { place: _ } = reading {
-        return reply::of_reading(reading);
-    }
-    let checked = planner::check(read.room);
-    reply::of_checked(checked)
+    let Ok(room) = read else {
+        return read.numbers();
+    };
+    planner::check(room).numbers()
 }
 
 // The reply to planning the room of a text.
@@ -40,12 +37,10 @@ pub fn plan_of(text: &[u8], table: &mut [u64], plan: &mut [u16]) -> Numbers
     ensures { PlanOfText text.now table.old plan.old table.new plan.new result }
 {
     let read = text::read(text);
-    let reading = read.reply;
-    if let Reading::Text { place: _ } = reading {
-        return reply::of_reading(reading);
-    }
-    let planned = planner::plan(read.room, table, plan);
-    reply::of_planned(planned)
+    let Ok(room) = read else {
+        return read.numbers();
+    };
+    planner::plan(room, table, plan).numbers()
 }
 
 // The reply to judging a past of the room of a text.
@@ -53,95 +48,78 @@ pub fn judge_of(text: &[u8], table: &mut [u64], past: &[u16]) -> Numbers
     ensures { JudgeOfText text.now past.now table.old table.new result }
 {
     let read = text::read(text);
-    let reading = read.reply;
-    if let Reading::Text { place: _ } = reading {
-        return reply::of_reading(reading);
-    }
-    let judged = planner::judge(read.room, table, past);
-    reply::of_judged(judged)
+    let Ok(room) = read else {
+        return read.numbers();
+    };
+    planner::judge(room, table, past).numbers()
 }
 
-// The answer to an input of which so many bytes were read, all of them or the first 649: its lines, and how many bytes they take.
-pub fn answer_input(input: [u8; INPUT], read: usize, lines: &mut [u8; LINES]) -> usize
-    ensures { InputAnswered input read lines.old result lines.new }
+// The answer to an input, of which the first 649 bytes count: its lines, and how many bytes they take.
+pub fn answer_input(input: &[u8], lines: &mut [u8; LINES]) -> usize
+    ensures answered { InputAnswered input.now lines.old result lines.new }
+    ensures within { result ≤ length lines.new }
 {
-    if read < INPUT {
-        return answer_text(&input[..read], lines);
-    }
-    answer_text(&input[..], lines)
+    answer_text(&input[..INPUT.min(input.len())], lines)
 }
 
 // The answer to a room text, with a table of 1,536 configurations and a plan buffer of 1,536 slots: its lines, and how many
 // bytes they take.
 pub fn answer_text(text: &[u8], lines: &mut [u8; LINES]) -> usize
-    ensures { TextAnswered text.now lines.old result lines.new }
+    ensures answered { TextAnswered text.now lines.old result lines.new }
+    ensures within { result ≤ length lines.new }
 {
     let mut table = [0u64; TABLE];
     let mut plan = [0u16; SLOTS];
-    put_answer(text, &mut table[..], &mut plan[..], &mut lines[..])
+    let numbers = plan_of(text, &mut table, &mut plan);
+    put_parts(numbers, slots_of(numbers, &plan), lines)
 }
 
-// Plans the room of a text, and puts the lines of the answer at the start of a buffer: how many bytes they take, or 0 where they
-// do not fit.
-pub fn put_answer(text: &[u8], table: &mut [u64], plan: &mut [u16], lines: &mut [u8]) -> usize
+// Plans the room of a text, and puts the lines of the answer at the start of a buffer, if they fit: how many bytes they take.
+pub fn put_answer(
+    text: &[u8],
+    table: &mut [u64],
+    plan: &mut [u16],
+    lines: &mut [u8],
+) -> Option<usize>
     ensures { Answered text.now table.old plan.old lines.old result
         table.new plan.new lines.new }
 {
     let numbers = plan_of(text, table, plan);
-    put_reply(numbers, &plan[..], lines)
+    let slots = slots_of(numbers, plan);
+    if lines.len() < 32 || (lines.len() - 32) / 7 < slots.len() {
+        return None;
+    }
+    Some(put_parts(numbers, slots, lines))
 }
 
-// The lines of a reply and of the plan in its buffer, where they fit.
-fn put_reply(numbers: Numbers, plan: &[u16], lines: &mut [u8]) -> usize
+// The slots of the plan of a reply, in the buffer that it left.
+fn slots_of(numbers: Numbers, plan: &[u16]) -> &[u16]
     requires { plan_slots numbers ≤ length plan.now }
-    ensures { Prints (printed numbers plan.now) lines.old result lines.new }
+    ensures { result.now ≡ take (plan_slots numbers) plan.now }
 {
-    let slots = slots_of(numbers, plan.len());
-    if fits(slots, lines.len()) {
-        return put_parts(numbers, plan, slots, lines);
-    }
-    0
+    &plan[..numbers.prefix + numbers.cycle]
 }
 
-// The first line, the lines of the plan's slots, and `ff`.
-fn put_parts(numbers: Numbers, plan: &[u16], slots: usize, lines: &mut [u8]) -> usize
-    requires { (slots ≡ plan_slots numbers) × (slots ≤ length plan.now) × (32 + 7 * slots ≤ length lines.old) }
-    ensures { Prints (printed numbers plan.now) lines.old result lines.new }
+// Puts the lines of an answer at the start of a buffer: the first line, those of the plan's slots, and `ff`. Gives how many
+// bytes they take.
+fn put_parts(numbers: Numbers, slots: &[u16], lines: &mut [u8]) -> usize
+    requires { 32 + 7 * length slots.now ≤ length lines.old }
+    ensures { Puts lines.old 0 (answer numbers slots.now) result lines.new }
 {
-    let head = head_of(numbers);
-    let at = digits::put_line(lines, 0, &head[..]);
-    let next = put_slots(plan, slots, lines, at);
-    digits::put_ending(lines, next)
+    let at = digits::put_line(lines, 0, &head_of(numbers));
+    let at = put_slots(lines, at, slots);
+    digits::put_ending(lines, at)
 }
 
-// How many slots the plan of a reply has, at most so many.
-fn slots_of(numbers: Numbers, most: usize) -> usize
-    requires { plan_slots numbers ≤ most }
-    ensures { result ≡ plan_slots numbers }
+// The frame of the first line: `f0`, code, count and two numbers.
+fn head_of(numbers: Numbers) -> [u8; 14]
+    ensures { result ≡ answer_frame numbers }
 {
-    numbers.prefix + numbers.cycle
-}
-
-// Whether the lines of a reply with so many slots fit into a buffer of a length.
-fn fits(slots: usize, length: usize) -> bool
-    ensures { T result ↔ (32 + 7 * slots ≤ length) }
-{
-    if length < 32 {
-        return false;
-    }
-    slots <= (length - 32) / 7
-}
-
-// A number in four bytes, highest byte first.
-fn four(x: usize) -> [u8; 4]
-    ensures { result ≡ four_bytes x }
-{
-    [
-        (x / 65536 / 256 % 256) as u8,
-        (x / 65536 % 256) as u8,
-        (x / 256 % 256) as u8,
-        (x % 256) as u8,
-    ]
+    let [second, third] = two_of(numbers);
+    let [a, b, c, d] = four(numbers.count);
+    let [e, f, g, h] = four(second);
+    let [i, j, k, l] = four(third);
+    [0xf0, numbers.code, a, b, c, d, e, f, g, h, i, j, k, l]
 }
 
 // The two numbers after the count: prefix and cycle on code 0, else place and 0.
@@ -149,57 +127,38 @@ fn two_of(numbers: Numbers) -> [usize; 2]
     ensures { result ≡ two numbers }
 {
     if numbers.code == 0 {
-        return [numbers.prefix, numbers.cycle];
+        [numbers.prefix, numbers.cycle]
+    } else {
+        [numbers.place, 0]
     }
-    [numbers.place, 0]
 }
 
-// The frame of the first line: `f0`, code, count and two numbers.
-fn head_of(numbers: Numbers) -> [u8; 14]
-    ensures { result ≡ answer_frame numbers }
+// A number in four bytes, highest byte first.
+#[tactic(auto, unfolding(paper::specs::Answer::four_bytes, paper::specs::Answer::two_bytes))]
+fn four(x: usize) -> [u8; 4]
+    ensures { result ≡ four_bytes x }
 {
-    let two = two_of(numbers);
-    let a = four(numbers.count);
-    let b = four(two[0]);
-    let c = four(two[1]);
-    [
-        0xf0,
-        numbers.code,
-        a[0],
-        a[1],
-        a[2],
-        a[3],
-        b[0],
-        b[1],
-        b[2],
-        b[3],
-        c[0],
-        c[1],
-        c[2],
-        c[3],
-    ]
+    let [.., a, b, c, d] = x.to_be_bytes();
+    [a, b, c, d]
 }
 
-// Puts the line of a plan slot.
-fn put_slot(lines: &mut [u8], at: usize, mask: u16) -> usize
-    requires { at + 7 ≤ length lines.old }
-    ensures { Puts lines.old at (line (slot_frame mask)) result lines.new }
-{
-    let frame = [0xf1, (mask / 256 % 256) as u8, (mask % 256) as u8];
-    digits::put_line(lines, at, &frame[..])
-}
-
-// Puts the lines of the first slots of a plan.
-fn put_slots(plan: &[u16], slots: usize, lines: &mut [u8], at: usize) -> usize
-    requires { (slots ≤ length plan.now) × (at + 7 * slots ≤ length lines.old) }
-    ensures { Puts lines.old at (flatten (map (λ m. line (slot_frame m)) (take slots plan.now))) result
-        lines.new }
+// Puts the lines of a plan's slots at a place of a buffer, and gives the place after them.
+fn put_slots(lines: &mut [u8], at: usize, slots: &[u16]) -> usize
+    requires { at + 7 * length slots.now ≤ length lines.old }
+    ensures { Puts lines.old at (slot_lines slots.now) result lines.new }
 {
     let mut next = at;
-    let mut i: usize = 0;
-    while i < slots {
-        next = put_slot(lines, next, plan[i]);
-        i += 1;
+    for mask in slots {
+        next = digits::put_line(lines, next, &slot_of(*mask));
     }
     next
+}
+
+// The frame of a plan slot: `f1` and its mask.
+#[tactic(auto, unfolding(paper::specs::Answer::slot_frame, paper::specs::Answer::two_bytes))]
+fn slot_of(mask: u16) -> [u8; 3]
+    ensures { result ≡ slot_frame mask }
+{
+    let [high, low] = mask.to_be_bytes();
+    [0xf1, high, low]
 }

@@ -1,111 +1,121 @@
--- Laws of digits at a place of a text: what the tests of the functions say of it.
---   value_says                     the value of a digit, as the paper's laws have it, is what is promised
---   digit_between                  no digit is between 9 and a
---   byte_beyond, byte_first_none, byte_second_none, byte_found
---                                  the byte at a place: the text ends before it, one of two bytes is no digit, both are
---   byte_at_is                      it is the byte at that place of the paper's laws of lines
---   stands_close, close_stands     byte 0a at a place
---   stands_ending, ending_stands   the line `ff` at a place
-use Prim.Native.Nat.{ℕ, zero, suc, ◌+◌, ◌*◌, ◌/◌, ◌%◌, ◌≤◌, ◌<◌}
+-- Laws of digits at a place of a text: what the tests of the functions say of it. A function looks at the rest of the text from the place on.
+--   byte_short, byte_first_none, byte_second_none, byte_found
+--                                   the byte at a place: the rest is too short, one of its first two bytes is no digit, both are
+--   stands_by_rest                  a part stands at the place where the rest starts with it
+--   byte_at_some, byte_at_none      the byte at a place is that of the paper's laws of lines
+--   stands_close, close_stands      byte 0a at a place
+--   stands_ending, ending_stands    the line `ff` at a place
+use Prim.Native.Nat.{ℕ, zero, suc, ◌+◌, ◌*◌, ◌-◌, ◌/◌, ◌%◌, ◌≤◌, ◌<◌}
 use native.Mathlib.Omega.{arith}
-use native.Mathlib.Nat.{add-zero, le_refl}
-use mathlib.Core.Path.{◌≡◌, sym, ap, ◌∙◌, subst}
-use mathlib.Core.Logic.{◌≢◌, ⊎_elim}
+use native.Mathlib.Nat.{add-zero}
+use mathlib.Core.Path.{◌≡◌, sym, ap, ◌∙◌}
+use mathlib.Core.Logic.{◌↔◌, ⊎_elim}
+use mathlib.Core.Bool.{Bool, true, false}
 use mathlib.Core.List.{List, [], ◌∷◌}
-use lib.ListN.{length, get_or}
+use lib.ListN.{length, take, drop, get_or, length-drop, length-take}
+use lib.Seq.{take_all, get_or-take, get_or-drop}
+use lib.Dec.{eqb}
+use Rattle.std.specs.List.{slice_range, starts_with}
+use Rattle.std.proofs.lemmas.Bool.Decides.{Decides-eqb}
+use Rattle.std.specs.Bool.{Decides}
+use Rattle.std.specs.Prelude.{Option, Some, None, MatchOption}
+use Rattle.std.specs.Slice.{IsGetRangeResult}
+use Rattle.std.proofs.Common.{Bor}
+use Rattle.std.proofs.lemmas.Slice.Eq.{slice_eq-Decides}
+use Rattle.std.proofs.lemmas.List.{ext_get_or}
 use Rattle.laws.proofs.Tests.{lt_or_le}
 use Rattle.paper.specs.Text.{digit, two_digits, ending}
-use Rattle.paper.specs.Reading.{value, byte, byte_at, Ending}
-use Rattle.paper.proofs.Digits.{value_between, value_digit, digit_value, byte_first_bad, byte_second_bad, byte_yes, byte_digits, digits_byte}
-use Rattle.paper.proofs.Digits.{two_digits_length}
+use Rattle.paper.specs.Reading.{byte, byte_at, Ending}
+use Rattle.paper.proofs.Digits.{byte_digits, digits_byte}
 use Rattle.paper.proofs.Lines.{byte_at_beyond, line_at_none, line_within, ending_within}
-use Rattle.digits.specs.Digits.{no_digit, no_byte, DigitValue, Stands, ByteAt}
+use Rattle.digits.specs.Digits.{DigitValue, Stands, ByteAt}
 
--- ---- One digit
+-- ---- Two digits at a place
 
-pub value_says : (b : ℕ) {v : ℕ} → value b ≡ v → v ≤ no_digit → DigitValue b v
-value_says b e l = record {
-  most = l;
-  found = λ h. subst (λ (x : ℕ). digit x ≡ b) e (digit_value b (omega arith));
-  none = λ n d h g. let f = sym (value_digit d h) ∙ ap value g in omega arith;
-}
+two_stand : {text : List ℕ} {at : ℕ} (x : ℕ)
+    → at + 2 ≤ length text → get_or text at 0 ≡ digit (x / 16) → get_or text (at + 1) 0 ≡ digit (x % 16) → Stands text at (two_digits x)
+unfolding two_digits
+two_stand {text} {at} x h p q = record { within = h; same = same }
+  where
+    same : (i : ℕ) → i < 2 → get_or text (at + i) 0 ≡ get_or (two_digits x) i 0
+    same zero l = rw add-zero p
+    same (suc zero) l = q
+    same (suc (suc i)) l = absurd (omega arith)
 
-pub digit_between : (d : ℕ) → d < no_digit → 0x3a ≤ digit d → 0x61 ≤ digit d
-digit_between d l g = ⊎_elim
-    (λ (h : digit d < 0x61). absurd (omega (arith, value_digit d l, value_between (digit d) g h)))
-    (λ (h : 0x61 ≤ digit d). h)
-    (lt_or_le (digit d) 0x61)
+-- ---- The rest of a text
 
--- ---- Two digits
+module _ (text rest : List ℕ) (at : ℕ) (known : at ≤ length text) (is : rest ≡ slice_range text at (length text)) where
+  rest_is : rest ≡ drop at text
+  rest_is = is ∙ take_all (length text - at) (drop at text) (omega (arith, length-drop at text))
 
-byte_most : (a b : ℕ) → byte a b ≤ no_byte
-byte_most a b = ⊎_elim
-    (λ (g : value a < 16). ⊎_elim
-    (λ (h : value b < 16). omega (arith, byte_yes a b g h))
-    (λ (h : 16 ≤ value b). omega (arith, byte_second_bad a b h))
-    (lt_or_le (value b) 16))
-    (λ (g : 16 ≤ value a). omega (arith, byte_first_bad a b g))
-    (lt_or_le (value a) 16)
+  rest_at : (i : ℕ) → get_or rest i 0 ≡ get_or text (at + i) 0
+  rest_at i = ap (λ (l : List ℕ). get_or l i 0) rest_is ∙ get_or-drop at text i 0
 
-module _ {text : List ℕ} {at : ℕ} where
-  two_stand : (x : ℕ) → at + 2 ≤ length text → get_or text at 0 ≡ digit (x / 16) → get_or text (at + 1) 0 ≡ digit (x % 16) → Stands text at (two_digits x)
-  unfolding two_digits
-  two_stand x h p q = record { within = h; same = same }
+  rest_long : length rest + at ≡ length text
+  rest_long = omega (arith, ap length rest_is, length-drop at text)
+
+  rest_stands : {part : List ℕ} {r : Bool} → r ≡ starts_with eqb rest part → (r ≡ true) ↔ Stands text at part
+  rest_stands {part} {r} e = (λ t. record { within = within (d.0 t); same = same (d.0 t) }, λ s. d.1 (back s))
     where
-      same : (i : ℕ) → i < 2 → get_or text (at + i) 0 ≡ get_or (two_digits x) i 0
-      same zero l = rw add-zero p
-      same (suc zero) l = q
-      same (suc (suc i)) l = absurd (omega arith)
+      d : Decides r (part ≡ take (length part) rest)
+      d = slice_eq-Decides Decides-eqb part (take (length part) rest) r e
 
-  stand_two : (x : ℕ) → Stands text at (two_digits x) → (get_or text at 0 ≡ digit (x / 16)) × (get_or text (at + 1) 0 ≡ digit (x % 16))
+      within : part ≡ take (length part) rest → at + length part ≤ length text
+      within p = omega (arith, ap length p, length-take (length part) rest, rest_long)
+
+      same : part ≡ take (length part) rest → (i : ℕ) → i < length part → get_or text (at + i) 0 ≡ get_or part i 0
+      same p i h = sym (rest_at i) ∙ sym (get_or-take (length part) rest i 0 h) ∙ ap (λ (l : List ℕ). get_or l i 0) (sym p)
+
+      back : Stands text at part → part ≡ take (length part) rest
+      back s =
+          ext_get_or 0 part (take (length part) rest)
+          (omega (arith, length-take (length part) rest, rest_long, s.within))
+          (λ i h. sym (s.same i h) ∙ sym (rest_at i) ∙ sym (get_or-take (length part) rest i 0 h))
+
+  two_rest : (x : ℕ) → Stands text at (two_digits x) → (2 ≤ length rest) × (digit (x / 16) ≡ get_or rest 0 0) × (digit (x % 16) ≡ get_or rest 1 0)
   unfolding two_digits
-  stand_two x s = (rw add-zero at (s.same 0 (omega arith)), s.same 1 (omega arith))
+  two_rest x s =
+      (omega (arith, rest_long, s.within), sym (rest_at 0 ∙ s.same 0 (omega arith)), sym (rest_at 1 ∙ s.same 1 (omega arith)))
 
-  no_byte_lem : ((y : ℕ) → y < no_byte → ¬ Stands text at (two_digits y)) → ByteAt text at no_byte
-  no_byte_lem n = record { most = le_refl no_byte; found = λ h. absurd (omega arith); none = λ _. n }
+  pub byte_short : length rest < 2 → ByteAt text at None
+  byte_short h x l s = omega (arith, (two_rest x s).0)
 
-  pub byte_beyond : length text < at + 2 → ByteAt text at no_byte
-  byte_beyond h = no_byte_lem (λ y l s. omega (arith, s.within, two_digits_length y))
+  pub byte_first_none : DigitValue (get_or rest 0 0) None → ByteAt text at None
+  byte_first_none n x l s = n (x / 16) (omega arith) (two_rest x s).1
 
-  module _ {v : ℕ} where
-    pub byte_first_none : DigitValue (get_or text at 0) v → v ≡ no_digit → ByteAt text at no_byte
-    byte_first_none d h = no_byte_lem (λ y l s. d.none h (y / 16) (omega arith) (sym (stand_two y s).0))
+  pub byte_second_none : DigitValue (get_or rest 1 0) None → ByteAt text at None
+  byte_second_none n x l s = n (x % 16) (omega arith) (two_rest x s).2
 
-    pub byte_second_none : DigitValue (get_or text (at + 1) 0) v → v ≡ no_digit → ByteAt text at no_byte
-    byte_second_none d h = no_byte_lem (λ y l s. d.none h (y % 16) (omega arith) (sym (stand_two y s).1))
+  pub byte_found : (v w : ℕ) → 2 ≤ length rest → DigitValue (get_or rest 0 0) (Some v) → DigitValue (get_or rest 1 0) (Some w)
+      → ByteAt text at (Some (v * 16 + w))
+  byte_found v w l d e =
+      let p : get_or text at 0 ≡ digit v = rw add-zero at (sym (rest_at 0)) ∙ sym d.1 in
+      let q : get_or text (at + 1) 0 ≡ digit w = sym (rest_at 1) ∙ sym e.1 in (
+        omega (arith, d.0, e.0),
+        two_stand (v * 16 + w) (omega (arith, rest_long)) (p ∙ ap digit (omega (arith, d.0, e.0))) (q ∙ ap digit (omega (arith, d.0, e.0))),
+      )
 
-    pub byte_found : {w : ℕ} → at + 2 ≤ length text → DigitValue (get_or text at 0) v → DigitValue (get_or text (at + 1) 0) w → v ≢ no_digit → w ≢ no_digit
-        → ByteAt text at (v * 16 + w)
-    byte_found {w} h d e g k =
-        let first : v < no_digit = omega (arith, d.most) in
-        let second : w < no_digit = omega (arith, e.most) in
-        let p : v ≡ (v * 16 + w) / 16 = omega arith in
-        let q : w ≡ (v * 16 + w) % 16 = omega arith in
-        record {
-          most = omega arith;
-          found = λ _. two_stand (v * 16 + w) h (sym (d.found first) ∙ ap digit p) (sym (e.found second) ∙ ap digit q);
-          none = λ n. absurd (omega arith);
-        }
+pub stands_by_rest : (text part : List ℕ) (at : ℕ) (o : Option (Bor (List ℕ))) (r : Bool) → IsGetRangeResult text at (length text) o
+    → MatchOption o (r ≡ false) (λ x. r ≡ starts_with eqb x.now part) → (r ≡ true) ↔ Stands text at part
+stands_by_rest text part at None r g e = (λ t. absurd (cc), λ s. absurd (⊎_elim (λ h. omega (arith, s.within)) (λ h. omega arith) g.0))
+stands_by_rest text part at (Some x) r g e = rest_stands text x.now at g.0.0 g.0.2 e
 
-  byte_at_stands : byte_at text at < no_byte → Stands text at (two_digits (byte_at text at))
-  byte_at_stands h =
-      let d = byte_digits (get_or text at 0) (get_or text (at + 1) 0) h in
-      ⊎_elim
-      (λ (l : at + 1 < length text). two_stand (byte_at text at) (omega arith) d.0 d.1)
-      (λ (l : length text ≤ at + 1). absurd (omega (arith, byte_at_beyond text at l)))
-      (lt_or_le (at + 1) (length text))
+-- ---- The byte of the paper's laws
 
-  pub byte_at_is : {x : ℕ} → ByteAt text at x → byte_at text at ≡ x
-  byte_at_is {x} b = ⊎_elim found none (lt_or_le x no_byte)
-    where
-      found : x < no_byte → byte_at text at ≡ x
-      found h = let s = stand_two x (b.found h) in (λ i. byte (s.0 i) (s.1 i)) ∙ digits_byte x h
+pub byte_at_some : {text : List ℕ} {at x : ℕ} → (x < 256) × Stands text at (two_digits x) → byte_at text at ≡ x
+unfolding two_digits
+byte_at_some {x = x} b = (λ i. byte ((rw add-zero at (b.1.same 0 (omega arith))) i) (b.1.same 1 (omega arith) i)) ∙ digits_byte x b.0
 
-      none : no_byte ≤ x → byte_at text at ≡ x
-      none h = ⊎_elim
-          (λ (l : byte_at text at < no_byte). absurd (b.none (omega (arith, b.most)) (byte_at text at) l (byte_at_stands l)))
-          (λ (l : no_byte ≤ byte_at text at). omega (arith, byte_most (get_or text at 0) (get_or text (at + 1) 0), b.most))
-          (lt_or_le (byte_at text at) no_byte)
+pub byte_at_none : (text : List ℕ) (at : ℕ) → ByteAt text at None → 256 ≤ byte_at text at
+byte_at_none text at n = ⊎_elim
+    (λ (h : byte_at text at < 256).
+    let d = byte_digits (get_or text at 0) (get_or text (at + 1) 0) h in
+    ⊎_elim
+    (λ (l : at + 1 < length text). absurd (n (byte_at text at) h (two_stand (byte_at text at) (omega arith) d.0 d.1)))
+    (λ (l : length text ≤ at + 1). omega (arith, byte_at_beyond text at l))
+    (lt_or_le (at + 1) (length text)))
+    (λ (h : 256 ≤ byte_at text at). h)
+    (lt_or_le (byte_at text at) 256)
 
 -- ---- The ends of lines
 

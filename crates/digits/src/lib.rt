@@ -1,91 +1,53 @@
 // Lowercase hexadecimal, two digits a byte, in lines closed by byte 0a: read from a text and put into a buffer.
 #![tactic(auto)]
 
-ghost use Rattle.std.specs.Prelude.{◌+◌, ◌*◌, ◌≤◌, ◌<◌, ◌≡◌, ◌↔◌, [], ◌∷◌, length, T};
+ghost use Rattle.std.specs.Prelude.{◌+◌, ◌*◌, ◌≤◌, ◌<◌, ◌≡◌, ◌↔◌, [], ◌∷◌, length, IsTrue};
 ghost use Rattle.paper.specs.Text.{digit, two_digits, line, ending};
 ghost use Rattle.digits.specs.Digits.{DigitValue, ByteAt, Stands, Puts};
 
-// The value of a byte that is no digit.
-pub const NO_DIGIT: u8 = 16;
-
-// What is read where no two digits stand.
-pub const NO_BYTE: u16 = 256;
-
 // ---- Read from a text
 
-// The byte whose two digits stand at a place of a text; NO_BYTE if no two digits stand there.
-pub fn byte_at(text: &[u8], at: usize) -> u16
+// The byte whose two digits stand at a place of a text, if two digits stand there.
+pub fn byte_at(text: &[u8], at: usize) -> Option<u8>
     ensures { ByteAt text.now at result }
 {
-    if text.len() < 2 {
-        return NO_BYTE;
-    }
-    if text.len() - 2 < at {
-        return NO_BYTE;
-    }
-    let high = value(text[at]);
-    if high == NO_DIGIT {
-        return NO_BYTE;
-    }
-    let low = value(text[at + 1]);
-    if low == NO_DIGIT {
-        return NO_BYTE;
-    }
-    high as u16 * 16 + low as u16
+    let [high, low, ..] = text.get(at..)? else {
+        return None;
+    };
+    Some(value(*high)? * 16 + value(*low)?)
 }
 
-// The value of a lowercase hexadecimal digit; NO_DIGIT if the byte is none.
-#[tactic(auto, using(crate::proofs::Digits::digit_between))]
-pub fn value(b: u8) -> u8
+// The value of a lowercase hexadecimal digit, if the byte is one.
+#[tactic(auto, unfolding(paper::specs::Text::digit))]
+pub fn value(b: u8) -> Option<u8>
     ensures { DigitValue b result }
 {
-    if b < b'0' {
-        return NO_DIGIT;
+    match b {
+        b'0'..=b'9' => Some(b - b'0'),
+        b'a'..=b'f' => Some(b - b'a' + 10),
+        _ => None,
     }
-    if b <= b'9' {
-        return b - b'0';
-    }
-    if b < b'a' {
-        return NO_DIGIT;
-    }
-    if b <= b'f' {
-        return b - b'a' + 10;
-    }
-    NO_DIGIT
 }
 
 // Whether a line is closed at a place of a text.
 pub fn closed_at(text: &[u8], at: usize) -> bool
-    ensures { T result ↔ Stands text.now at (0x0a ∷ []) }
+    ensures { IsTrue result ↔ Stands text.now at (0x0a ∷ []) }
 {
     stands_at(text, at, b"\n")
 }
 
 // Whether the fixed line `ff` stands at a place of a text.
 pub fn ending_at(text: &[u8], at: usize) -> bool
-    ensures { T result ↔ Stands text.now at ending }
+    ensures { IsTrue result ↔ Stands text.now at ending }
 {
     stands_at(text, at, b"ff\n")
 }
 
 // Whether a part stands at a place of a text.
 pub fn stands_at(text: &[u8], at: usize, part: &[u8]) -> bool
-    ensures { T result ↔ Stands text.now at part.now }
+    ensures { IsTrue result ↔ Stands text.now at part.now }
 {
-    if text.len() < part.len() {
-        return false;
-    }
-    if text.len() - part.len() < at {
-        return false;
-    }
-    let mut i: usize = 0;
-    while i < part.len() {
-        if text[at + i] != part[i] {
-            return false;
-        }
-        i += 1;
-    }
-    true
+    text.get(at..).is_some_and(|rest| rest.starts_with(part))
 }
 
 // ---- Put into a buffer
@@ -96,34 +58,28 @@ pub fn put_line(buffer: &mut [u8], at: usize, frame: &[u8]) -> usize
     ensures { Puts buffer.old at (line frame.now) result buffer.new }
 {
     let mut next = at;
-    let mut i: usize = 0;
-    while i < frame.len() {
-        next = put_byte(buffer, next, frame[i]);
-        i += 1;
+    for x in frame {
+        next = put_byte(buffer, next, *x);
     }
-    buffer[next] = b'\n';
-    next + 1
+    put(buffer, next, b"\n")
 }
 
 // Puts the two digits of a byte, and gives the place after them.
+#[tactic(auto, unfolding(paper::specs::Text::two_digits))]
 pub fn put_byte(buffer: &mut [u8], at: usize, x: u8) -> usize
     requires { at + 2 ≤ length buffer.old }
     ensures { Puts buffer.old at (two_digits x) result buffer.new }
 {
-    buffer[at] = digit(x / 16);
-    buffer[at + 1] = digit(x % 16);
-    at + 2
+    put(buffer, at, &[digit(x / 16), digit(x % 16)])
 }
 
 // The digit of a value below 16.
+#[tactic(auto, unfolding(paper::specs::Text::digit))]
 pub fn digit(d: u8) -> u8
     requires { d < 16 }
     ensures { result ≡ digit d }
 {
-    if d < 10 {
-        return b'0' + d;
-    }
-    b'a' + (d - 10)
+    if d < 10 { b'0' + d } else { b'a' + (d - 10) }
 }
 
 // Puts the fixed line `ff`, and gives the place after it.
@@ -139,10 +95,7 @@ pub fn put(buffer: &mut [u8], at: usize, part: &[u8]) -> usize
     requires { at + length part.now ≤ length buffer.old }
     ensures { Puts buffer.old at part.now result buffer.new }
 {
-    let mut i: usize = 0;
-    while i < part.len() {
-        buffer[at + i] = part[i];
-        i += 1;
-    }
-    at + i
+    let end = at + part.len();
+    buffer[at..end].copy_from_slice(part);
+    end
 }

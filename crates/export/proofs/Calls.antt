@@ -5,12 +5,12 @@ use Prim.Native.Nat.{ℕ}
 use mathlib.Core.Path.{◌≡◌, sym, ap, ◌∙◌, subst}
 use mathlib.Core.List.{List}
 use Rattle.paper.specs.declared.Numbers.{Numbers}
-use Rattle.paper.specs.Reply.{reading_numbers}
+use Rattle.paper.specs.Reply.{ReadAnswer}
 use Rattle.paper.proofs.Replies.{read_reply_one, write_reply_one}
 use Rattle.answer.specs.Calls.{CheckOfText, PlanOfText, JudgeOfText}
 use Rattle.answer.proofs.One.{of_answer_one, check_one, plan_one, judge_one}
 use Rattle.export.specs.Calls.{five, Told}
-use Rattle.export.specs.Bytes.{Holds, room_of, ReadOfText, WriteOfBytes}
+use Rattle.export.specs.Bytes.{Holds, room_of, handed, ReadOfText, WriteOfBytes}
 use Rattle.export.proofs.Bytes.{bytes_one}
 
 -- Same is what two calls share beside their numbers
@@ -24,11 +24,12 @@ told_one one x y =
       d.1,
     )
 
--- the reader's reply and the bytes of its room
+-- the reader's reply and the bytes of the room handed back
 read_one : (text : List ℕ) {bytes bytes' : List ℕ} {N N' : Numbers} → ReadOfText text bytes N → ReadOfText text bytes' N' → (N ≡ N') × (bytes ≡ bytes')
-read_one text {bytes} x y =
-    let d = read_reply_one text x.reading y.reading x.room y.room x.says y.says in
-    (x.told ∙ ap reading_numbers d.0 ∙ sym y.told, bytes_one (subst (Holds bytes) d.1 x.holds) y.holds)
+read_one text {bytes} =
+    of_answer_one (λ r r' p q.
+    let e = read_reply_one text r r' p.0 q.0 in
+    (e, bytes_one (subst (λ (s : ReadAnswer). Holds bytes (handed s)) e p.1) q.1))
 
 module _ (text : List ℕ) {code code' : ℕ} {numbers numbers' : List ℕ} where
   pub check_told_one : Told (CheckOfText text) code numbers → Told (CheckOfText text) code' numbers' → (code ≡ code') × (numbers ≡ numbers')

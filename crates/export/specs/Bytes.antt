@@ -1,21 +1,23 @@
 -- A room as 228 bytes: four counts, then all entries, used or not, at fixed places.
 --   size                                    228
---   count_bytes, job_bytes, section_bytes, link_bytes   the bytes of the counts and of an entry
+--   count_bytes                              the bytes of the counts
 --   ByteAt                                  byte k of a room
 --   Holds                                   the bytes of a room
 --   job_at, section_at, link_at                the entry that stands at a place
 --   room_of                                  the room in 228 bytes
+--   handed                                   the room that reading hands back
 --   ReadOfText, WriteOfBytes                the replies of reading and writing
-use Rattle.std.specs.Prelude.{ℕ, ◌+◌, ◌*◌, ◌<◌, ◌≡◌, List, [], ◌∷◌, length, get_or}
+use Rattle.std.specs.Prelude.{ℕ, ◌+◌, ◌*◌, ◌<◌, ◌≡◌, List, [], ◌∷◌, length, get_or, Ok, Err}
 use Rattle.laws.specs.Lists.{row}
 use Rattle.paper.specs.declared.Room.{Room}
 use Rattle.paper.specs.declared.Job.{Job}
 use Rattle.paper.specs.declared.Section.{Section}
 use Rattle.paper.specs.declared.Link.{Link}
 use Rattle.paper.specs.declared.Numbers.{Numbers}
-use Rattle.paper.specs.declared.Reading.{Reading}
 use Rattle.paper.specs.Room.{job, section, link}
-use Rattle.paper.specs.Reply.{reading_numbers, writing_numbers, ReadReply, WriteReply}
+use Rattle.paper.specs.Text.{no_room}
+use Rattle.paper.specs.Reply.{ReadAnswer, reading_numbers, writing_numbers, ReadReply, WriteReply}
+use Rattle.text.specs.Parts.{job_bytes, section_bytes, link_bytes}
 use Rattle.answer.specs.Calls.{OfAnswer}
 
 -- ---- The layout
@@ -25,15 +27,6 @@ size = 228
 
 abbrev pub count_bytes : Room → List ℕ
 count_bytes room = room.engines ∷ room.jobs ∷ room.sections ∷ room.links ∷ []
-
-abbrev pub job_bytes : Job → List ℕ
-job_bytes j = j.first ∷ j.load ∷ j.deadline ∷ j.period ∷ []
-
-abbrev pub section_bytes : Section → List ℕ
-section_bytes s = s.job ∷ s.block ∷ s.first ∷ s.after ∷ []
-
-abbrev pub link_bytes : Link → List ℕ
-link_bytes k = k.sender ∷ k.receiver ∷ []
 
 -- 16 jobs of 4 bytes from 4 on, 32 sections of 4 from 68 on, 16 links of 2 from 196 on
 pub record ByteAt (room : Room) (k x : ℕ) : Type 0 where
@@ -70,13 +63,14 @@ room_of bytes = record {
 
 -- ---- The calls
 
--- the reader's reply, and the bytes of the room that it hands back: all zeros on TEXT
-pub record ReadOfText (text bytes : List ℕ) (N : Numbers) : Type 0 where
-  pub reading : Reading
-  pub room : Room
-  pub says : ReadReply text reading room
-  pub told : N ≡ reading_numbers reading
-  pub holds : Holds bytes room
+-- the room that is handed back: the one read, or on TEXT a room of all zeros
+abbrev pub handed : ReadAnswer → Room
+handed (Ok room) = room
+handed (Err b) = no_room
+
+-- the reader's reply, and the bytes of the room that is handed back
+abbrev pub ReadOfText : List ℕ → List ℕ → Numbers → Type 0
+ReadOfText text bytes = OfAnswer reading_numbers (λ r. ReadReply text r × Holds bytes (handed r))
 
 -- the writer's reply to the room in the bytes
 abbrev pub WriteOfBytes : List ℕ → List ℕ → List ℕ → Numbers → Type 0

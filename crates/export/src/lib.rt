@@ -1,13 +1,15 @@
 // The calls for C and Rust. A room comes as its text, or as its 228 bytes; a reply goes back as its code and as five numbers.
 #![tactic(auto)]
 
-ghost use Rattle.std.specs.Prelude.{◌+◌, ◌*◌, ◌<◌, ◌≡◌};
-ghost use Rattle.laws.specs.Lists.{row};
+ghost use Rattle.std.specs.Prelude.{◌+◌, ◌*◌, ◌/◌, ◌%◌, ◌<◌, ◌≤◌, ◌≡◌, [], ℕ, length, take, drop, slice_index};
+ghost use Rattle.std.specs.List.{slice_index_or};
 ghost use Rattle.answer.specs.Calls.{CheckOfText, PlanOfText, JudgeOfText};
 ghost use Rattle.export.specs.Calls.{Tells, Told};
-ghost use Rattle.export.specs.Bytes.{size, ByteAt, Holds, job_at, section_at, link_at, room_of, ReadOfText, WriteOfBytes};
+ghost use Rattle.export.specs.Bytes.{size, ByteAt, Holds, room_of, ReadOfText, WriteOfBytes};
 
-use paper::{Job, Link, Numbers, Room, Section};
+use paper::{Numbers, Room};
+use reply::Told;
+use text::Entry;
 
 // The bytes of a room: four counts, 16 jobs, 32 sections and 16 links.
 const SIZE: usize = 228;
@@ -17,8 +19,7 @@ const SIZE: usize = 228;
 pub extern "C" fn stoerwjok_check(text: &[u8], numbers: &mut [u64; 5]) -> u64
     ensures { Told (CheckOfText text.now) result numbers.new }
 {
-    let reply = answer::check_of(text);
-    tell(reply, numbers)
+    tell(answer::check_of(text), numbers)
 }
 
 // Plans the room of a text.
@@ -32,8 +33,7 @@ pub extern "C" fn stoerwjok_plan(
     ensures { Told (PlanOfText text.now table.old plan.old table.new plan.new)
         result numbers.new }
 {
-    let reply = answer::plan_of(text, table, plan);
-    tell(reply, numbers)
+    tell(answer::plan_of(text, table, plan), numbers)
 }
 
 // Judges a past of the room of a text.
@@ -46,8 +46,7 @@ pub extern "C" fn stoerwjok_judge(
 ) -> u64
     ensures { Told (JudgeOfText text.now past.now table.old table.new) result numbers.new }
 {
-    let reply = answer::judge_of(text, table, past);
-    tell(reply, numbers)
+    tell(answer::judge_of(text, table, past), numbers)
 }
 
 // Reads a room text into the 228 bytes of a room, all zeros on TEXT.
@@ -56,11 +55,8 @@ pub extern "C" fn stoerwjok_read(text: &[u8], room: &mut [u8; SIZE], numbers: &m
     ensures { Told (ReadOfText text.now room.new) result numbers.new }
 {
     let read = text::read(text);
-    let bytes = bytes_of(read.room);
-    *room = bytes;
-    let reading = read.reply;
-    let reply = reply::of_reading(reading);
-    tell(reply, numbers)
+    *room = bytes_of(read.unwrap_or_default());
+    tell(read.numbers(), numbers)
 }
 
 // Writes the 228 bytes of a room as its text.
@@ -68,18 +64,14 @@ pub extern "C" fn stoerwjok_read(text: &[u8], room: &mut [u8; SIZE], numbers: &m
 pub extern "C" fn stoerwjok_write(room: &[u8; SIZE], text: &mut [u8], numbers: &mut [u64; 5]) -> u64
     ensures { Told (WriteOfBytes room.now text.old text.new) result numbers.new }
 {
-    let bytes = *room;
-    let held = room_of(bytes);
-    let writing = text::write(held, text);
-    let reply = reply::of_writing(writing);
-    tell(reply, numbers)
+    tell(text::write(room_of(room), text).numbers(), numbers)
 }
 
 // Hands back the code of a reply, and its numbers.
 fn tell(reply: Numbers, numbers: &mut [u64; 5]) -> u64
     ensures { Tells reply result numbers.new }
 {
-    let code = reply.code as u64;
+    let code = u64::from(reply.code);
     *numbers = [
         code,
         reply.count as u64,
@@ -94,13 +86,7 @@ fn tell(reply: Numbers, numbers: &mut [u64; 5]) -> u64
 fn bytes_of(room: Room) -> [u8; SIZE]
     ensures { Holds result room }
 {
-    let mut bytes = [0u8; SIZE];
-    let mut k: usize = 0;
-    while k < SIZE {
-        bytes[k] = byte_of(room, k);
-        k += 1;
-    }
-    bytes
+    std::array::from_fn(|k| byte_of(room, k))
 }
 
 // Byte `k` of a room.
@@ -108,107 +94,48 @@ fn byte_of(room: Room, k: usize) -> u8
     requires { k < size }
     ensures { ByteAt room k result }
 {
-    if k < 4 {
-        let byte = [room.engines, room.jobs, room.sections, room.links];
-        return byte[k];
+    match k {
+        0..4 => [room.engines, room.jobs, room.sections, room.links][k],
+        4..68 => entry_byte(&room.job, k - 4),
+        68..196 => entry_byte(&room.section, k - 68),
+        _ => entry_byte(&room.link, k - 196),
     }
-    if k < 68 {
-        let job = room.job[k / 4 - 1];
-        let byte = [job.first, job.load, job.deadline, job.period];
-        return byte[k % 4];
-    }
-    if k < 196 {
-        let section = room.section[k / 4 - 17];
-        let byte = [section.job, section.block, section.first, section.after];
-        return byte[k % 4];
-    }
-    let link = room.link[k / 2 - 98];
-    let byte = [link.sender, link.receiver];
-    byte[k % 2]
+}
+
+// Byte `k` of entries that stand one after another, N bytes each.
+fn entry_byte<const N: usize, E: Entry<N>>(entries: &[E], k: usize) -> u8
+    requires { (0 < N) × (N ≤ 4) × (k < N * length entries.now) }
+    ensures { (d : E) → result ≡ slice_index (E.bytes_of (slice_index_or entries.now (k / N) d)) (k % N) }
+{
+    entries[k / N].bytes()[k % N]
 }
 
 // The room in 228 bytes.
-fn room_of(bytes: [u8; SIZE]) -> Room
-    ensures { result ≡ room_of bytes }
+fn room_of(bytes: &[u8; SIZE]) -> Room
+    ensures { result ≡ room_of bytes.now }
 {
-    let job = jobs_of(bytes);
-    let section = sections_of(bytes);
-    let link = links_of(bytes);
     Room {
         engines: bytes[0],
         jobs: bytes[1],
         sections: bytes[2],
         links: bytes[3],
-        job,
-        section,
-        link,
+        job: entries_of(&bytes[4..68]),
+        section: entries_of(&bytes[68..196]),
+        link: entries_of(&bytes[196..]),
     }
 }
 
-// The sixteen jobs.
-fn jobs_of(bytes: [u8; SIZE]) -> [Job; 16]
-    ensures { result ≡ row (λ i. job_at bytes (4 + 4 * i)) 0 16 }
+// The entries that stand one after another, N bytes each.
+fn entries_of<const N: usize, const M: usize, E: Entry<N>>(bytes: &[u8]) -> [E; M]
+    requires { (0 < N) × (N ≤ 4) × (length bytes.now ≡ N * M) }
+    ensures long { length result ≡ M }
+    ensures bytes { (d : E) (i : ℕ) → i < M → E.bytes_of (slice_index_or result i d) ≡ take N (drop (N * i) bytes.now) }
 {
-    let mut job = [Job {
-        first: 0,
-        load: 0,
-        deadline: 0,
-        period: 0,
-    }; 16];
-    let mut i: usize = 0;
-    while i < 16 {
-        let at = 4 + 4 * i;
-        job[i] = Job {
-            first: bytes[at],
-            load: bytes[at + 1],
-            deadline: bytes[at + 2],
-            period: bytes[at + 3],
-        };
-        i += 1;
-    }
-    job
-}
-
-// The 32 sections.
-fn sections_of(bytes: [u8; SIZE]) -> [Section; 32]
-    ensures { result ≡ row (λ q. section_at bytes (68 + 4 * q)) 0 32 }
-{
-    let mut section = [Section {
-        job: 0,
-        block: 0,
-        first: 0,
-        after: 0,
-    }; 32];
-    let mut q: usize = 0;
-    while q < 32 {
-        let at = 68 + 4 * q;
-        section[q] = Section {
-            job: bytes[at],
-            block: bytes[at + 1],
-            first: bytes[at + 2],
-            after: bytes[at + 3],
-        };
-        q += 1;
-    }
-    section
-}
-
-// The sixteen links.
-fn links_of(bytes: [u8; SIZE]) -> [Link; 16]
-    ensures { result ≡ row (λ q. link_at bytes (196 + 2 * q)) 0 16 }
-{
-    let mut link = [Link {
-        sender: 0,
-        receiver: 0,
-    }; 16];
-    let mut q: usize = 0;
-    while q < 16 {
-        let at = 196 + 2 * q;
-        link[q] = Link {
-            sender: bytes[at],
-            receiver: bytes[at + 1],
-        };
-        q += 1;
-    }
-    link
+    let (parts, _) = bytes.as_chunks::<N>();
+    std::array::from_fn(
+        |i| -> E
+            requires { i < length parts.now }
+            ensures { E.bytes_of result ≡ slice_index_or parts.exit.now i [] }
+        { E::of(&parts[i]) },
+    )
 }

@@ -1,7 +1,15 @@
 -- `answer::answer_text` meets its contract: the buffers have the program's sizes.
-use borrow.Author.Rules.{rules}
-use Rattle.answer.proofs.Program.{text_answered}
+use Rattle.answer.proofs.Lines.{printed_put}
 use Rattle.answer.proofs.answer_text.Goals as goal
 
-pub returns : goal.returns
-returns c = let k = c.put_answer in text_answered (search rules) k.ensures
+pub returns-clause-answered : goal.returns-clause-answered
+returns-clause-answered c =
+    let p = printed_put _ _ c.slots_of.ensures c.put_parts.ensures in
+    record {
+      numbers = c.plan_of-numbers.result;
+      table = c.plan_of-numbers.new.table;
+      plan = c.plan_of-numbers.new.plan;
+      says = c.plan_of-numbers.ensures;
+      place = p.0;
+      same = p.1;
+    }

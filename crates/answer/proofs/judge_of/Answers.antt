@@ -1,14 +1,11 @@
 -- `answer::judge_of` meets its contract: the reading's TEXT with the table as found, or the planner's reply.
-use mathlib.Core.Path.{refl}
-use Rattle.answer.proofs.Calls.{of_answer, broken_text, good_text}
+use mathlib.Core.Path.{refl, ap, ◌∙◌}
+use Rattle.paper.specs.Reply.{reading_numbers}
+use Rattle.answer.specs.Calls.{broken, good}
 use Rattle.answer.proofs.judge_of.Goals as goal
 
-pub returns-in-Text : goal.returns-in-Text
-returns-in-Text c =
-    let x = c.read-read in
-    broken_text x.result.reply _ x.ensures c.in-Text.is c.of_reading.ensures refl
+pub returns-in_default : goal.returns-in_default
+returns-in_default c = broken c.in_default.field-0 c.in_default.ensures (c.numbers.ensures ∙ ap reading_numbers c.in_default.is) refl
 
 pub returns : goal.returns
-returns c =
-    let x = c.read-read in
-    good_text x.result.reply _ x.ensures c.in_default.is (of_answer c.judge-judged.result c.judge-judged.ensures c.of_judged.ensures)
+returns c = good c.in-Ok.room c.in-Ok.ensures (record { answer = c.judge.result; promised = c.judge.ensures; told = c.numbers-2.ensures })

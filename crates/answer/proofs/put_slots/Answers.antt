@@ -1,19 +1,22 @@
-use borrow.Author.Rules.{rules}
-use Rattle.answer.proofs.Lines.{slots_start, slot_fits, slots_turn, slots_end}
+use Rattle.std.proofs.Common.{length, take, arith}
+use lib.Seq.{length-take-le, take_all}
+use Rattle.digits.proofs.Buffers.{puts_none, puts_more}
+use Rattle.answer.proofs.Lines.{slots_none, slots_more, slots_length}
 use Rattle.answer.proofs.put_slots.Goals as goal
 
-pub loop-i-init : goal.loop-i-init
-loop-i-init c = (search rules, search rules, search rules, slots_start _ _ _)
+pub loop-mask-init : goal.loop-mask-init
+loop-mask-init c = rw slots_none (puts_none _ _)
 
-pub put_slot-next-requires : goal.put_slot-next-requires
-put_slot-next-requires c =
-    let v = c.loop-i.invariant in
-    slot_fits _ _ _ v.3 c.loop-i-test.true v.1 v.2
+pub put_line-next-requires : goal.put_line-next-requires
+put_line-next-requires c =
+    let i = c.loop-mask.mask-index in
+    let s = c.args.slots.now in
+    omega (arith, c.loop-mask.invariant.place, slots_length (take i s), length-take-le i s (omega arith))
 
-pub loop-i-preserved : goal.loop-i-preserved
-loop-i-preserved c =
-    let v = c.loop-i.invariant in
-    (search rules, v.1, v.2, slots_turn _ _ _ v.3 (search rules) (search rules) c.put_slot-next.ensures c.put_slot-next.auto.lines)
+pub loop-mask-preserved : goal.loop-mask-preserved
+loop-mask-preserved c =
+    rw (slots_more c.args.slots.now c.loop-mask.mask-index (omega arith))
+    (puts_more (omega arith) c.loop-mask.invariant (rw (← c.slot_of.ensures) c.put_line-next.ensures))
 
 pub returns : goal.returns
-returns c = let v = c.loop-i.invariant in slots_end _ _ _ v.3 v.0 c.loop-i-test.false
+returns c = rw (← take_all c.loop-mask.mask-index c.args.slots.now (omega arith)) c.loop-mask.invariant

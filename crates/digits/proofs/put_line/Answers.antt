@@ -1,13 +1,22 @@
-use borrow.Author.Rules.{rules}
-use Rattle.digits.proofs.Buffers.{line_start, line_turn, line_end}
+use Rattle.std.proofs.Common.{◌<◌, ◌≤◌, length, arith}
+use Rattle.digits.proofs.Buffers.{puts_none, puts_more, digits_length, digits_none, digits_more, digits_line}
 use Rattle.digits.proofs.put_line.Goals as goal
 
-pub loop-i-init : goal.loop-i-init
-loop-i-init c = line_start _ _ _ c.requires
+pub loop-x-init : goal.loop-x-init
+loop-x-init c = rw digits_none (puts_none _ _)
 
-pub loop-i-preserved : goal.loop-i-preserved
-loop-i-preserved c =
-    line_turn _ _ _ (search rules) c.loop-i.invariant (search rules) c.put_byte-next.ensures c.put_byte-next.auto.buffer
+pub put_byte-next-requires : goal.put_byte-next-requires
+put_byte-next-requires c = omega (arith, c.loop-x.invariant.place, digits_length c.args.frame.now c.loop-x.x-index)
+
+pub loop-x-preserved : goal.loop-x-preserved
+loop-x-preserved c =
+    let h : c.loop-x.x-index < length c.args.frame.now = omega arith in
+    rw digits_more (puts_more (omega arith) c.loop-x.invariant c.put_byte-next.ensures)
+
+pub put-requires : goal.put-requires
+put-requires c = omega (arith, c.loop-x.invariant.place, digits_length c.args.frame.now c.loop-x.x-index)
 
 pub returns : goal.returns
-returns c = line_end _ _ _ (search rules) c.loop-i.invariant (search rules)
+returns c =
+    let h : length c.args.frame.now ≤ c.loop-x.x-index = omega arith in
+    rw (← digits_line _ _ h) (puts_more (omega arith) c.loop-x.invariant c.put.ensures)

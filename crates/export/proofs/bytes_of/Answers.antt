@@ -1,12 +1,10 @@
-use mathlib.Core.Path.{refl}
-use Rattle.export.proofs.Bytes.{laying_start, laying_more, laying_end}
+-- `export::bytes_of` meets its contract: each byte is the room's.
+use Rattle.std.proofs.Common.{rules}
+use Rattle.export.specs.Bytes.{ByteAt}
+use Rattle.export.proofs.Bytes.{from_fn_same}
 use Rattle.export.proofs.bytes_of.Goals as goal
 
-pub loop-k-init : goal.loop-k-init
-loop-k-init c = laying_start refl
-
-pub loop-k-preserved : goal.loop-k-preserved
-loop-k-preserved c = laying_more c.loop-k.invariant c.loop-k-test.true c.byte_of.ensures
-
 pub returns : goal.returns
-returns c = laying_end c.loop-k.invariant c.loop-k-test.false
+returns c =
+    let r = c.from_fn.ensures.items in
+    record { long = r.long; byte = λ k h. from_fn_same (ByteAt c.args.room) r (λ i y f e. search rules) k 0 h }

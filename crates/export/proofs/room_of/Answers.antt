@@ -1,8 +1,10 @@
 -- `export::room_of` meets its contract: counts and entries are read at their places.
-use mathlib.Core.Path.{refl}
-use Rattle.export.proofs.Bytes.{room_is}
+use Rattle.export.proofs.Bytes.{jobs_are, sections_are, links_are}
 use Rattle.export.proofs.room_of.Goals as goal
 
 pub returns : goal.returns
 returns c =
-    room_is c.args.bytes _ refl refl refl refl c.jobs_of-job.ensures c.sections_of-section.ensures c.links_of-link.ensures
+    let j = jobs_are c.args.bytes.now c.entries_of.ensures.long c.entries_of.ensures.bytes in
+    let s = sections_are c.args.bytes.now c.entries_of-2.ensures.long c.entries_of-2.ensures.bytes in
+    let l = links_are c.args.bytes.now c.entries_of-3.ensures.long c.entries_of-3.ensures.bytes in
+    rw (j, s, l)

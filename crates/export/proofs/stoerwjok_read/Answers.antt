@@ -1,18 +1,14 @@
--- `export::stoerwjok_read` meets its contract: the reader's reply, and the bytes of its room.
-use Rattle.reply.proofs.Numbers.{same_numbers}
+-- `export::stoerwjok_read` meets its contract: the reader's reply, and the bytes of the room that it hands back.
+use Rattle.export.proofs.Bytes.{handed_is}
 use Rattle.export.proofs.stoerwjok_read.Goals as goal
 
 pub returns : goal.returns
-returns c =
-    let r = c.read-read in
-    record {
-      reply = c.of_reading-reply.result;
-      promised = record {
-        reading = r.result.reply;
-        room = r.result.room;
-        says = r.ensures;
-        told = same_numbers c.of_reading-reply.ensures;
-        holds = c.bytes_of-bytes.ensures;
-      };
-      tells = c.tell.ensures;
-    }
+returns c = record {
+  reply = c.numbers.result;
+  promised = record {
+    answer = c.read-read.result;
+    promised = (c.read-read.ensures, rw (handed_is c.read-read.result c.unwrap_or_default.ensures) c.bytes_of.ensures);
+    told = c.numbers.ensures;
+  };
+  tells = c.tell.ensures;
+}

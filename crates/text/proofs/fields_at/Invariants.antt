@@ -1,10 +1,10 @@
--- `text::fields_at` meets its contract. The loop's invariant: the first i bytes are read.
-use Prim.Native.Nat.{◌-◌}
-use Rattle.text.proofs.Reader.{FieldsTo}
+-- `text::fields_at` meets its contract. The loop's invariant: the first i bytes after the kind are read.
+use Rattle.std.proofs.Common.{◌≡◌, ℕ, ◌+◌, ◌*◌, ◌<◌, length, get_or}
+use Rattle.paper.specs.Reading.{byte_at}
 use Rattle.text.proofs.fields_at.Given as goal
 
 abbrev pub invariant-loop-i : goal.invariant-loop-i
-invariant-loop-i l = FieldsTo l.text l.at l.n l.i l.byte
-
-abbrev pub decreases-loop-i : goal.decreases-loop-i
-decreases-loop-i l = l.n - l.i
+invariant-loop-i g l = record {
+  long : length l.fields ≡ g.row.N;
+  read : (k : ℕ) → k < l.i → (byte_at l.text (l.at + 2 * (k + 1)) ≡ get_or l.fields k 0) × (byte_at l.text (l.at + 2 * (k + 1)) < 256);
+}
