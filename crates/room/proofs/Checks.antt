@@ -1,14 +1,11 @@
--- Laws for the parts of the check.
---   fails, holds                what the negation of a verdict says
---   least_bad                   a search through n entries by such tests ends at the least bad one
---   first_bad                   so it does where there may be too many of them;
---   many_sections, many_links   and where there are too many
---   multiple_next               the least common multiple with one more number
---   next_long                   where that passes 4,096
---   within_limits               within the limits no job does
+-- The searches of the check, through a test of each entry, and the multiple, by one job more.
+--   opposite                the negation of a verdict, negated
+--   least_bad               a search through n entries for one that does not fit ends at the least bad one
+--   first_bad, first_many   so it does where only so many are allowed, and where there are more
+--   multiple_next           the multiple of one job more
+--   next_long               where it passes 4,096
 use Prim.Native.Nat.{ℕ, ◌+◌, ◌≤◌, ◌<◌, ◌%◌}
 use native.Mathlib.Omega.{arith}
-use borrow.Author.Rules.{rules}
 use mathlib.Core.Path.{◌≡◌, refl, subst}
 use mathlib.Core.Bool.{Bool, true, false, not}
 use denote.Param.Members.{Mut}
@@ -22,21 +19,17 @@ use Rattle.std.specs.declared.ops.Range.{Range}
 use Rattle.std.specs.List.{range_with_len, AllWithin, HoldsAt}
 use Rattle.std.specs.Option.{MatchOption}
 use Rattle.std.specs.Prelude.{Option, None, Some, length}
-use Rattle.laws.proofs.Tests.{T_of}
 use Rattle.laws.proofs.Multiples.{least_more_times}
 use Rattle.paper.specs.declared.Room.{Room}
-use Rattle.paper.specs.Room.{EachJobFits, Multiple, GoodSection, GoodLink, section, link, period}
+use Rattle.paper.specs.Room.{EachJobFits, Multiple, period}
 use Rattle.paper.specs.Reply.{LeastBad, FirstBad, many, one, Passes}
 use Rattle.room.specs.Checks.{Verdict, LeastMultiple}
 
 -- ---- Bad entries
 
-module _ {P : Type 0} where
-  pub fails : {fits : Bool} → Verdict fits P → not fits ≡ true → ¬ P
-  fails {fits} v e = v.no (T_of (not fits) e)
-
-  pub holds : {fits : Bool} → Verdict fits P → not fits ≡ false → P
-  holds {fits} v e = v.yes (T_of fits (search rules))
+pub opposite : {P : Type 0} {b : Bool} (fits : Bool) → b ≡ not fits → Verdict fits P → Verdict (not b) P
+opposite true e v = rw e v
+opposite false e v = rw e v
 
 module _ (Fine : ℕ → Type 0) (n : ℕ) where
   listed : (k : ℕ) → k < n → AllWithin Fine (range_with_len 0 n) 0 (k + 1) → Fine k
@@ -53,21 +46,20 @@ module _ (Fine : ℕ → Type 0) (n : ℕ) where
       record { below = omega arith; bad = bad; earlier = λ k b. listed k (omega arith) (λ j d g h. before j d g (omega arith)) }
 
   module _ {F : Type 0} {g : Mut F (Bor ℕ × Unit {0}) Bool} {f : F} (u : Range ℕ) (r : Option ℕ) {end : ℕ} (all : end ≡ n) where
-    pub least_bad : FindsItem nat_range_steps g (record { start = 0; end = end }) f r u → ((x : ℕ) (q : F) → CalledAt g f x true q → ¬ Fine x)
-        → ((x : ℕ) (q : F) → CalledAt g f x false q → (q ≡ f) × Fine x) → MatchOption r ((k : ℕ) → k < n → Fine k) (LeastBad Fine n)
-    least_bad ran bad fine = least_listed r (first_from_find _ f r (λ i. ¬ Fine i) Fine ran (YieldsList-from_range 0 end n refl (omega arith)) bad fine)
+    pub least_bad : FindsItem nat_range_steps g (record { start = 0; end = end }) f r u → ((x : ℕ) (b : Bool) (q : F) → CalledAt g f x b q → (q ≡ f) × Verdict (not b) (Fine x))
+        → MatchOption r ((k : ℕ) → k < n → Fine k) (LeastBad Fine n)
+    least_bad ran says =
+        least_listed r
+        (first_from_find _ f r (λ i. ¬ Fine i) Fine ran (YieldsList-from_range 0 end n refl (omega arith))
+        (λ x q k. (says x true q k).1.no tt) (λ x q k. let o = says x false q k in (o.0, o.1.yes tt)))
 
   pub first_bad : (most : ℕ) (r : Option ℕ) → n ≤ most → MatchOption r ((k : ℕ) → k < n → Fine k) (LeastBad Fine n)
       → MatchOption r ((n ≤ most) × ((k : ℕ) → k < n → Fine k)) (FirstBad Fine n most)
   first_bad most None few h = (few, h)
   first_bad most (Some i) few h = one few h
 
-module _ {room : Room} where
-  pub many_sections : 32 < room.sections → FirstBad (λ q. GoodSection room (section room q)) room.sections 32 32
-  many_sections l = many l refl
-
-  pub many_links : 16 < room.links → FirstBad (λ q. GoodLink room (link room q)) room.links 16 16
-  many_links l = many l refl
+pub first_many : (Fine : ℕ → Type 0) (n most : ℕ) → most < n → FirstBad Fine n most most
+first_many Fine n most l = many l refl
 
 -- ---- H
 

@@ -2,10 +2,10 @@
 use native.Mathlib.Omega.{arith}
 use borrow.Author.Rules.{rules}
 use Rattle.paper.specs.Room.{GoodSection, section}
-use Rattle.room.proofs.Checks.{fails, holds, least_bad, first_bad}
+use Rattle.room.proofs.Checks.{opposite, least_bad, first_bad}
 use Rattle.room.proofs.first_bad_section.Goals as goal
 
 pub returns : goal.returns
 returns c =
     first_bad _ _ 32 _ (omega arith)
-    (least_bad (λ q. GoodSection c.args.room (section c.args.room q)) _ _ _ c.from.ensures c.find.ensures.ran (λ q s k. search (rules, fails)) (λ q s k. search (rules, holds)))
+    (least_bad (λ q. GoodSection c.args.room (section c.args.room q)) _ _ _ c.from.ensures c.find.ensures.ran (λ q b f k. search (rules, opposite)))

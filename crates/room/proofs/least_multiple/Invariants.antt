@@ -1,4 +1,5 @@
--- `room::least_multiple` meets its contract. The invariant: no fewer times h is divided by t. As t times h is, no product passes 255 * 65,535.
+-- `room::least_multiple` meets its contract. The invariant: no fewer times h is divided by t. Where none below t is, t times h is, and no
+-- product passes 255 * 65,535.
 use Prim.Native.Nat.{ℕ, ◌*◌, ◌<◌, ◌%◌}
 use mathlib.Core.Logic.{◌≢◌}
 use Rattle.room.proofs.least_multiple.Given as goal
