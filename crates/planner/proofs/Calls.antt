@@ -1,5 +1,6 @@
 -- From the parts of a call to its reply.
 --   long_undecides                           a table that is too long
+--   emptied_cleared                          lent words that are cleared have nothing in them
 --   given_decided                            a pruned table decides the room
 --   none_answer, short_answer, good_answer   what it answers of the plan
 use Prim.Native.Nat.{ℕ, ◌-◌, ◌≤◌, ◌<◌}
@@ -15,7 +16,9 @@ use Rattle.paper.specs.declared.Planned.TheVariants as planned
 use Rattle.paper.specs.Room.{Limits}
 use Rattle.paper.specs.Reply.{W, most, written, Decided}
 use Rattle.paper.specs.declared.Times.{Times}
-use Rattle.table.specs.Contents.{Contents}
+use Rattle.table.specs.Contents.{Contents, Emptied}
+use Rattle.table.proofs.Face.{passed_none}
+use Rattle.explore.specs.Exploring.{Cleared}
 use Rattle.states.specs.View.{lives, mask, leads}
 use Rattle.states.proofs.Pruned.{table_count, table_feasible}
 use Rattle.follow.specs.declared.Turn.{Turn}
@@ -26,6 +29,9 @@ use Rattle.planner.specs.Calls.{Undecides, PlanAnswers}
 
 pub long_undecides : {room : Room} {table : List ℕ} → Limits room → most < length table → Undecides room table undecided.Table table
 long_undecides limits long = record { says = record { limits = limits; long = long }; table_is = refl }
+
+pub emptied_cleared : {words : List ℕ} {t : Contents} → Emptied words t → Cleared t
+emptied_cleared {words} {t} e = (e.none, λ j l. passed_none t.words (length words) t.capacity e.zeros j)
 
 module _ {room : Room} {times : Times} {t : Contents} (g : Given room times t) where
   pub given_decided : (table₀ : List ℕ) → length table₀ ≤ most → t.capacity ≡ W table₀ → Decided room table₀ t.found
