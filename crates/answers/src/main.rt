@@ -2,11 +2,12 @@
 // Printed are that line and the answer: all of it, or of a long one the first line, how many bytes it has and a sum of them.
 #![tactic(auto)]
 
-ghost use Rattle.std.specs.Prelude.{◌≤◌, IfOk, length};
+ghost use Rattle.std.specs.Prelude.{◌+◌, ◌≡◌, length};
 
 use answer::LINES;
+use arrayvec::ArrayVec;
 use std::io;
-use std::io::{Read, Stdin, Stdout, Write};
+use std::io::{Read, Stdout, Write};
 
 // The bytes of the first line of an answer.
 const FIRST: usize = 29;
@@ -19,53 +20,31 @@ const ALL: usize = 8192;
 
 // Reads all texts, and answers them.
 fn main(rt: HostRuntime) -> io::Result<()> {
-    let mut texts = [0u8; ALL];
-    let n = read_all(rt.stdin(), &mut texts)?;
-    answer_all(rt.stdout(), &texts[..n])
-}
-
-// Reads until the buffer is full or the input ends, and gives how many bytes were read.
-fn read_all(mut input: Stdin, texts: &mut [u8; ALL]) -> io::Result<usize>
-    ensures { IfOk result (λ n. n ≤ ALL) }
-{
-    let mut done: usize = 0;
-    while done < ALL {
-        let more = input.read(&mut texts[done..])?;
-        if more == 0 {
-            return Ok(done);
-        }
-        done += more;
-    }
-    Ok(done)
+    let mut texts = ArrayVec::<u8, ALL>::new();
+    io::copy(&mut rt.stdin().take(ALL as u64), &mut texts)?;
+    answer_all(rt.stdout(), texts.as_slice())
 }
 
 // Prints the answer to each text.
 fn answer_all(mut out: Stdout, texts: &[u8]) -> io::Result<()> {
-    let mut at: usize = 0;
-    while at < texts.len() {
-        let end = place_of(b'=', texts, at);
-        let line = place_of(b'\n', texts, end);
-        out.write_all(&texts[end..line])?;
+    let mut rest = texts;
+    while !rest.is_empty() {
+        let (text, said) = cut(rest, b'=');
+        let (line, after) = cut(said, b'\n');
+        out.write_all(line)?;
         out.write_all(b"\n")?;
-        print_answer(out, &texts[at..end])?;
-        at = line + 1;
+        print_answer(out, text)?;
+        rest = after.get(1..).unwrap_or_default();
     }
     Ok(())
 }
 
-// The first place from `at` on that has a byte; the length if none has.
-fn place_of(byte: u8, texts: &[u8], at: usize) -> usize
-    requires { at ≤ length texts.now }
-    ensures { (at ≤ result) × (result ≤ length texts.now) }
+// What stands before the first such byte, and what stands from it on.
+fn cut(bytes: &[u8], byte: u8) -> (&[u8], &[u8])
+    ensures { length result.0.now + length result.1.now ≡ length bytes.now }
 {
-    let mut k = at;
-    while k < texts.len() {
-        if texts[k] == byte {
-            return k;
-        }
-        k += 1;
-    }
-    k
+    let place = bytes.iter().position(|b| *b == byte).unwrap_or(bytes.len());
+    bytes.split_at(place)
 }
 
 // Prints the answer to a text.
@@ -81,30 +60,12 @@ fn show(mut out: Stdout, lines: &[u8]) -> io::Result<()> {
         return out.write_all(lines);
     }
     out.write_all(&lines[0..FIRST])?;
-    print_number(out, lines.len() as u64)?;
+    let length = lines.len();
     let sum = sum_of(lines);
-    print_number(out, sum)
-}
-
-// Prints a number and the end of a line.
-fn print_number(mut out: Stdout, n: u64) -> io::Result<()> {
-    writeln!(out, "{n}")
+    writeln!(out, "{length}\n{sum}")
 }
 
 // A sum of bytes that tells their order.
 fn sum_of(bytes: &[u8]) -> u64 {
-    let mut sum: u64 = 0;
-    let mut i: usize = 0;
-    while i < bytes.len() {
-        sum = (sum * 31 + wide(bytes[i])) % 65521;
-        i += 1;
-    }
-    sum
-}
-
-// A byte as a number.
-fn wide(x: u8) -> u64
-    ensures { result ≤ 255 }
-{
-    x as u64
+    bytes.iter().fold(0, |sum, b| sum % 65521 * 31 + u64::from(*b)) % 65521
 }

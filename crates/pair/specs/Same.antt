@@ -1,10 +1,9 @@
 -- What it means that the two planners agree.
 --   Agree   two replies have the same numbers, and something else is the same; in a room that is too large nothing is compared
-use Rattle.std.specs.Prelude.{◌≡◌}
+use Rattle.std.specs.Prelude.{◌≡◌, Result, Ok, Err}
 use Rattle.paper.specs.declared.Numbers.{Numbers}
-use Rattle.pair.specs.declared.Second.{Second}
-use Rattle.pair.specs.declared.Second.TheVariants as second
+use Rattle.second.specs.declared.TooLarge.{TooLarge}
 
-abbrev pub Agree : Numbers → Second → Type 0 → Type 0
-Agree first (second.Known numbers) Rest = (first ≡ numbers) × Rest
-Agree first second.TooLarge Rest = Unit {0}
+abbrev pub Agree : Numbers → Result Numbers TooLarge → Type 0 → Type 0
+Agree first (Ok numbers) Rest = (first ≡ numbers) × Rest
+Agree first (Err large) Rest = Unit {0}

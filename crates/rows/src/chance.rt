@@ -4,10 +4,10 @@ ghost use Rattle.std.specs.Prelude.{◌-◌, ◌≤◌};
 
 // The low 32 bits of a number, mixed.
 fn mixed(x: u64) -> u64 {
-    let a = x % 4294967296;
-    let b = (a ^ a >> 16) % 4294967296 * 0x7feb352d % 4294967296;
-    let c = (b ^ b >> 15) % 4294967296 * 0x846ca68b % 4294967296;
-    c ^ c >> 16
+    let a = (x % 4294967296) as u32;
+    let b = (a ^ a >> 16).wrapping_mul(0x7feb352d);
+    let c = (b ^ b >> 15).wrapping_mul(0x846ca68b);
+    u64::from(c ^ c >> 16)
 }
 
 // The seed of a part.
@@ -25,10 +25,9 @@ pub fn mask_of(seed: u64, part: u64) -> u16 {
     (seed_of(seed, part) / 256 % 65536) as u16
 }
 
-// One of the numbers below n; 0 where there is none.
+// One of the numbers below n, or 0 where n is 0.
 pub fn below(n: u8, seed: u64, part: u64) -> u8
     ensures { result ≤ n - 1 }
 {
-    let x = byte_of(seed, part);
-    if n == 0 { 0 } else { x % n }
+    byte_of(seed, part) % n.max(1)
 }

@@ -3,22 +3,20 @@
 // came.
 #![tactic(auto)]
 
-mod line; // a line of output
-mod numbers; // replies in words
-mod tally; // how often each reply came
+mod words; // replies and plans in words
+mod report; // what is written, and how often each reply came
 mod hand; // the rows of the paper
 mod chance; // numbers that look like chance
 mod made; // rooms made from them
 mod pasts; // pasts made from them
 mod trial; // a made room and its pasts through both planners
 
-use hand::all_rows;
+use report::Report;
 use std::io;
-use tally::{no_tally, write_tally};
-use trial::all_rooms;
 
 fn main(rt: HostRuntime) -> io::Result<()> {
-    let out = rt.stdout();
-    let tally = all_rows(out, no_tally())?;
-    write_tally(out, all_rooms(out, tally)?)
+    let mut report = Report::new(rt.stdout());
+    hand::all_rows(&mut report)?;
+    trial::all_rooms(&mut report)?;
+    report.close()
 }

@@ -5,19 +5,15 @@ use paper::{Judged, Room};
 
 // The slot of a plan that stands for a slot, its cycle repeated without end.
 fn turned(prefix: usize, cycle: usize, slot: usize) -> usize {
-    if slot < prefix {
+    if slot < prefix || cycle == 0 {
         return slot;
     }
-    if cycle == 0 {
-        return slot;
-    }
-    prefix.wrapping_add((slot - prefix) % cycle)
+    prefix + (slot - prefix) % cycle
 }
 
 // The mask that a plan has in a slot; where the buffer has no such slot, no job runs.
 fn planned(plan: &[u16], prefix: usize, cycle: usize, slot: usize) -> u16 {
-    let at = turned(prefix, cycle, slot);
-    if at < plan.len() { plan[at] } else { 0 }
+    plan.get(turned(prefix, cycle, slot)).copied().unwrap_or(0)
 }
 
 // Any mask of so many jobs.
@@ -31,72 +27,53 @@ fn any_mask(jobs: u8, seed: u64) -> u16 {
 
 // Follows the plan in all slots of the past.
 pub fn follow_plan(plan: &[u16], prefix: usize, cycle: usize, past: &mut [u16]) {
-    let mut slot = 0;
-    while slot < past.len() {
-        past[slot] = planned(plan, prefix, cycle, slot);
-        slot += 1;
+    for (slot, mask) in past.iter_mut().enumerate() {
+        *mask = planned(plan, prefix, cycle, slot);
     }
 }
 
 // Replaces the mask of one slot, by any or by the same with one job more or less.
 pub fn change_slot(jobs: u8, seed: u64, past: &mut [u16]) {
-    let slot = byte_of(seed, 0) as usize % 16;
-    if past.len() <= slot {
-        return;
+    let slot = usize::from(byte_of(seed, 0) % 16);
+    if let Some(mask) = past.get_mut(slot) {
+        if byte_of(seed, 1) % 2 == 0 {
+            *mask = any_mask(jobs, seed_of(seed, 2));
+        } else {
+            *mask ^= 1 << (byte_of(seed, 3) % 6);
+        }
     }
-    if byte_of(seed, 1) % 2 == 0 {
-        past[slot] = any_mask(jobs, seed_of(seed, 2));
-        return;
-    }
-    past[slot] = past[slot] ^ 1 << (byte_of(seed, 3) % 6);
 }
 
 // Any masks in all slots of the past.
 pub fn any_masks(jobs: u8, seed: u64, past: &mut [u16]) {
-    let mut slot = 0;
-    while slot < past.len() {
-        past[slot] = any_mask(jobs, seed_of(seed, slot as u64));
-        slot += 1;
+    for (slot, mask) in past.iter_mut().enumerate() {
+        *mask = any_mask(jobs, seed_of(seed, slot as u64));
     }
 }
 
-// Whether the planner accepts the first slots of a past.
-fn accepts(room: Room, table: &mut [u64], past: &[u16], slots: usize) -> bool {
-    if past.len() < slots {
-        return false;
-    }
-    let judged = planner::judge(room, table, &past[..slots]);
-    match judged {
-        Judged::Good { count: _ } => true,
-        Judged::Undecided(_) => false,
-        Judged::Out { count: _, place: _ } => false,
-    }
+// Whether the planner accepts a past.
+fn accepts(room: Room, table: &mut [u64], past: &[u16]) -> bool {
+    matches!(planner::judge(room, table, past), Ok(Judged::Good { .. }))
 }
 
-// Puts into a slot of the past the first of four masks that the planner accepts there, or the last;
-// whether there is one.
-fn wander_slot(room: Room, table: &mut [u64], seed: u64, past: &mut [u16], slot: usize) -> bool {
-    if past.len() <= slot {
-        return false;
-    }
-    let mut k = 0;
-    while k < 4 {
-        past[slot] = any_mask(room.jobs, seed_of(seed, k));
-        if accepts(room, table, &past[..], slot + 1) {
+// Puts into the last slot of a past the first of four masks that the planner accepts there, or the last of them; whether there is one.
+fn wander_slot(room: Room, table: &mut [u64], seed: u64, past: &mut [u16]) -> bool {
+    for k in 0..4 {
+        if let Some(mask) = past.last_mut() {
+            *mask = any_mask(room.jobs, seed_of(seed, k));
+        }
+        if accepts(room, table, past) {
             return true;
         }
-        k += 1;
     }
     false
 }
 
 // Any masks that the planner accepts, until there is a slot for which none was found.
 pub fn wander(room: Room, table: &mut [u64], seed: u64, past: &mut [u16]) {
-    let mut slot = 0;
-    while slot < past.len() {
-        if !wander_slot(room, table, seed_of(seed, slot as u64), past, slot) {
+    for slot in 0..past.len() {
+        if !wander_slot(room, table, seed_of(seed, slot as u64), &mut past[..=slot]) {
             return;
         }
-        slot += 1;
     }
 }

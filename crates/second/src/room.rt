@@ -1,170 +1,66 @@
 // A room: its entries, the ranges of each part, and R and H.
-ghost use Rattle.std.specs.Prelude.{◌≤◌};
+ghost use Rattle.std.specs.Prelude.{◌≤◌, length, IfSome, IfOk};
 
-use paper::{Job, Link, Room, Section};
+use paper::{Job, Link, Refusal, Room, Section};
 
-// Job i of a room; zeros where there is no such entry.
-pub fn job_at(room: Room, i: usize) -> Job {
-    if i < 16 {
-        room.job[i]
-    } else {
-        Job {
-            first: 0,
-            load: 0,
-            deadline: 0,
-            period: 0,
-        }
-    }
+// The jobs of a room, as many as there are entries at most.
+pub fn jobs(room: &Room) -> &[Job]
+    ensures { length result.now ≤ 16 }
+{
+    &room.job[..usize::from(room.jobs).min(16)]
 }
 
-// Section q of a room; zeros where there is no such entry.
-pub fn section_at(room: Room, q: usize) -> Section {
-    if q < 32 {
-        room.section[q]
-    } else {
-        Section {
-            job: 0,
-            block: 0,
-            first: 0,
-            after: 0,
-        }
-    }
+// The sections of a room.
+pub fn sections(room: &Room) -> &[Section] {
+    &room.section[..usize::from(room.sections).min(32)]
 }
 
-// Link q of a room; zeros where there is no such entry.
-pub fn link_at(room: Room, q: usize) -> Link {
-    if q < 16 {
-        room.link[q]
-    } else {
-        Link {
-            sender: 0,
-            receiver: 0,
-        }
-    }
+// The links of a room.
+pub fn links(room: &Room) -> &[Link] {
+    &room.link[..usize::from(room.links).min(16)]
 }
 
 // 1 <= C <= D <= T <= 64; a first slot is any byte.
-fn good_job(j: Job) -> bool {
+fn good_job(j: &Job) -> bool {
     1 <= j.load && j.load <= j.deadline && j.deadline <= j.period && j.period <= 64
 }
 
 // Block 0 to 7; first < after <= C of that job.
-fn good_section(room: Room, s: Section) -> bool {
-    let j = job_at(room, s.job as usize);
-    s.job < room.jobs && s.block <= 7 && s.first < s.after && s.after <= j.load
+fn good_section(room: &Room, s: &Section) -> bool {
+    match jobs(room).get(usize::from(s.job)) {
+        Some(j) => s.block <= 7 && s.first < s.after && s.after <= j.load,
+        None => false,
+    }
 }
 
 // Two different jobs with equal r and equal T.
-fn good_link(room: Room, k: Link) -> bool {
-    let a = job_at(room, k.sender as usize);
-    let b = job_at(room, k.receiver as usize);
-    k.sender < room.jobs
-        && k.receiver < room.jobs
-        && k.sender != k.receiver
-        && a.first == b.first
-        && a.period == b.period
-}
-
-// The least bad job; where there is none, the number of jobs.
-pub fn bad_job(room: Room) -> usize {
-    let n = room.jobs as usize;
-    let mut i = 0;
-    while i < n {
-        if !good_job(job_at(room, i)) {
-            return i;
-        }
-        i += 1;
+fn good_link(room: &Room, k: &Link) -> bool {
+    let jobs = jobs(room);
+    match (
+        jobs.get(usize::from(k.sender)),
+        jobs.get(usize::from(k.receiver)),
+    ) {
+        (Some(a), Some(b)) => k.sender != k.receiver && a.first == b.first && a.period == b.period,
+        _ => false,
     }
-    n
 }
 
-// The least bad section; where there is none, the number of sections.
-pub fn bad_section(room: Room) -> usize {
-    let n = room.sections as usize;
-    let mut q = 0;
-    while q < n {
-        if !good_section(room, section_at(room, q)) {
-            return q;
-        }
-        q += 1;
-    }
-    n
+// The least common multiple of the periods of some jobs: the least number from 1 to 4,096 that is a multiple of all.
+fn least_multiple(jobs: &[Job]) -> Option<u16>
+    ensures { IfSome result (λ h. (1 ≤ h) × (h ≤ 4096)) }
+{
+    (1u16..4097).find(|&h| jobs.iter().all(|j| h.is_multiple_of(u16::from(j.period))))
 }
 
-// The least bad link; where there is none, the number of links.
-pub fn bad_link(room: Room) -> usize {
-    let n = room.links as usize;
-    let mut q = 0;
-    while q < n {
-        if !good_link(room, link_at(room, q)) {
-            return q;
-        }
-        q += 1;
-    }
-    n
-}
-
-// What is left of a when b is taken from it as often as it goes; a itself where b is 0.
-pub fn rest(a: u16, b: u8) -> u16 {
-    let by = b as u16;
-    if by == 0 { a } else { a % by }
-}
-
-// Whether h is a multiple of the periods of the jobs 0 to n - 1.
-fn multiple_of_all(room: Room, n: usize, h: u16) -> bool {
-    let mut i = 0;
-    while i < n {
-        let j = job_at(room, i);
-        if rest(h, j.period) != 0 {
-            return false;
-        }
-        i += 1;
-    }
-    true
-}
-
-// The least common multiple of the periods of the jobs 0 to n - 1: the least number from 1 on that
-// is a multiple of all. Where it is above 4,096, 4,097.
-fn least_multiple(room: Room, n: usize) -> u16
-    ensures { (1 ≤ result) × (result ≤ 4097) }
+// The least common multiple of all periods; or the job at which that of the jobs 0 to it first passes 4,096.
+fn multiple_of(jobs: &[Job]) -> Result<u16, Refusal>
+    ensures { IfOk result (λ h. (1 ≤ h) × (h ≤ 4096)) }
 {
     let mut h = 1;
-    while h < 4097 {
-        if multiple_of_all(room, n, h) {
-            return h;
-        }
-        h += 1;
+    for place in 0..jobs.len() {
+        h = least_multiple(&jobs[..=place]).ok_or(Refusal::Long { place })?;
     }
-    h
-}
-
-// The job at which the multiple of jobs 0 to it first passes 4,096; where there is none, the number
-// of jobs.
-pub fn long_job(room: Room) -> usize {
-    let n = room.jobs as usize;
-    let mut i = 0;
-    while i < n {
-        if 4096 < least_multiple(room, i + 1) {
-            return i;
-        }
-        i += 1;
-    }
-    n
-}
-
-// R, the greatest r.
-fn greatest_first(room: Room) -> u8 {
-    let n = room.jobs as usize;
-    let mut greatest = 0;
-    let mut i = 0;
-    while i < n {
-        let j = job_at(room, i);
-        if greatest < j.first {
-            greatest = j.first;
-        }
-        i += 1;
-    }
-    greatest
+    Ok(h)
 }
 
 // The time positions are 0 to `last`, R + H - 1, and after `last` comes `back`, R.
@@ -174,12 +70,41 @@ pub struct Clock {
     pub last: u16,
 }
 
-// The time positions of a room.
-pub fn clock_of(room: Room) -> Clock {
-    let back = greatest_first(room) as u16;
-    let h = least_multiple(room, room.jobs as usize);
-    Clock {
+// The time positions of a room within the limits; else its refusal, in the order of the numbers.
+pub fn clock_of(room: &Room) -> Result<Clock, Refusal> {
+    within_limits(room)?;
+    let jobs = jobs(room);
+    let h = multiple_of(jobs)?;
+    let greatest = jobs.iter().map(|j| j.first).max().unwrap_or(0);
+    let back = u16::from(greatest);
+    Ok(Clock {
         back,
         last: back + h - 1,
+    })
+}
+
+// The refusals 3 to 7, in the order of the numbers.
+fn within_limits(room: &Room) -> Result<(), Refusal> {
+    if room.engines < 1 || 8 < room.engines {
+        return Err(Refusal::Engines);
     }
+    if room.jobs < 1 || 16 < room.jobs {
+        return Err(Refusal::Jobs);
+    }
+    if let Some(place) = jobs(room).iter().position(|j| !good_job(j)) {
+        return Err(Refusal::Job { place });
+    }
+    if 32 < room.sections {
+        return Err(Refusal::Section { place: 32 });
+    }
+    if let Some(place) = sections(room).iter().position(|s| !good_section(room, s)) {
+        return Err(Refusal::Section { place });
+    }
+    if 16 < room.links {
+        return Err(Refusal::Link { place: 16 });
+    }
+    if let Some(place) = links(room).iter().position(|k| !good_link(room, k)) {
+        return Err(Refusal::Link { place });
+    }
+    Ok(())
 }

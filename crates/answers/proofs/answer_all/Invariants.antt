@@ -1,10 +1,6 @@
--- `answers::answer_all` is safe and ends: each text and its line lie in the slice, and the next one begins after them.
-use Prim.Native.Nat.{◌-◌}
-use lib.ListN.{length}
+-- `answers::answer_all` ends: what is left after a text and its line is shorter.
+use Rattle.std.proofs.Common.{length}
 use Rattle.answers.proofs.answer_all.Given as goal
 
-abbrev pub invariant-loop-at : goal.invariant-loop-at
-invariant-loop-at l = Unit {0}
-
-abbrev pub decreases-loop-at : goal.decreases-loop-at
-decreases-loop-at l = length l.texts - l.at
+abbrev pub decreases-loop-rest : goal.decreases-loop-rest
+decreases-loop-rest l = length l.rest
