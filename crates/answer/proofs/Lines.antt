@@ -4,7 +4,7 @@
 --                                  the lines of no slot, and of one more, and their length
 --   head_length, answer_length     the first line has 29 bytes, each slot 7, and `ff` 3
 --   printed_length, printed_put    the lines of a reply and of the plan in its buffer
-use Prim.Native.Nat.{ℕ, ◌+◌, ◌*◌, ◌≤◌, ◌<◌}
+use Prim.Native.Nat.{ℕ, ◌+◌, ◌*◌, ◌<◌}
 use native.Mathlib.Omega.{arith}
 use native.Mathlib.Nat.{zero-add}
 use native.Mathlib.Numerals.{add-one}

@@ -4,10 +4,10 @@
 --   program_never_short   it is never SHORT
 use Prim.Native.Nat.{ℕ, ◌≤◌, ◌<◌}
 use native.Mathlib.Omega.{arith}
-use mathlib.Core.Path.{◌≡◌, refl, sym, ap, ◌∙◌, subst}
+use mathlib.Core.Path.{◌≡◌, sym, ap, ◌∙◌, subst}
 use mathlib.Core.Logic.{◌≢◌}
 use mathlib.Core.List.{List}
-use lib.ListN.{length, take, drop, length-take, length-append, length-replicate}
+use lib.ListN.{length, take, length-replicate}
 use Rattle.std.specs.Prelude.{Ok, Err}
 use Rattle.paper.specs.declared.Room.{Room}
 use Rattle.paper.specs.declared.Numbers.{Numbers}
@@ -18,11 +18,10 @@ use Rattle.paper.specs.declared.Undecided.TheVariants as undecided
 use Rattle.paper.specs.declared.Planned.TheVariants as planned
 use Rattle.paper.specs.Reply.{refusal_numbers, undecided_numbers, planned_numbers, W, written, PlanAnswer, PlanShort, PlanReply}
 use Rattle.paper.specs.Answer.{program_slots}
-use Rattle.paper.proofs.Refusals.{refused_slots}
 use Rattle.paper.proofs.Uniques.{plan_feasible, plan_one as room_plan_one}
 use Rattle.paper.proofs.Plans.{plan_exists}
 use Rattle.answer.specs.Calls.{PlanOfText, broken, good}
-use Rattle.answer.specs.Lines.{plan_slots, printed, program_table, program_plan, TextAnswered, InputAnswered}
+use Rattle.answer.specs.Lines.{printed, program_table, program_plan, TextAnswered, InputAnswered}
 use Rattle.answer.proofs.Enough.{text_near}
 use Rattle.answer.proofs.One.{plan_one}
 

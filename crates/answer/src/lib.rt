@@ -142,7 +142,8 @@ fn four(x: usize) -> [u8; 4]
     [a, b, c, d]
 }
 
-// Puts the lines of a plan's slots at a place of a buffer, and gives the place after them.
+// Puts the lines of a plan's slots at a place of a buffer, and gives the place after them. The loop is not that of crate text
+// over entries, since a number can have a trait of that crate only there.
 fn put_slots(lines: &mut [u8], at: usize, slots: &[u16]) -> usize
     requires { at + 7 * length slots.now ≤ length lines.old }
     ensures { Puts lines.old at (slot_lines slots.now) result lines.new }

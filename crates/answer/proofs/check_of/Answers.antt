@@ -1,5 +1,5 @@
 -- `answer::check_of` meets its contract: the reading's TEXT, or the planner's reply.
-use mathlib.Core.Path.{refl, ap, ◌∙◌}
+use mathlib.Core.Path.{ap, ◌∙◌}
 use Rattle.paper.specs.Reply.{reading_numbers}
 use Rattle.answer.specs.Calls.{broken, good}
 use Rattle.answer.proofs.check_of.Goals as goal

@@ -1,4 +1,4 @@
-use Rattle.std.proofs.Common.{length, take, arith}
+use Rattle.std.proofs.Common.{take, arith}
 use lib.Seq.{length-take-le, take_all}
 use Rattle.digits.proofs.Buffers.{puts_none, puts_more}
 use Rattle.answer.proofs.Lines.{slots_none, slots_more, slots_length}

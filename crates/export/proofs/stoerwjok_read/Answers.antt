@@ -7,7 +7,7 @@ returns c = record {
   reply = c.numbers.result;
   promised = record {
     answer = c.read-read.result;
-    promised = (c.read-read.ensures, rw (handed_is c.read-read.result c.unwrap_or_default.ensures) c.bytes_of.ensures);
+    promised = (c.read-read.ensures, rw (← handed_is c.read-read.result c.unwrap_or_default.ensures) c.bytes_of.ensures);
     told = c.numbers.ensures;
   };
   tells = c.tell.ensures;
