@@ -67,5 +67,8 @@ fn show(mut out: Stdout, lines: &[u8]) -> io::Result<()> {
 
 // A sum of bytes that tells their order.
 fn sum_of(bytes: &[u8]) -> u64 {
-    bytes.iter().fold(0, |sum, b| sum % 65521 * 31 + u64::from(*b)) % 65521
+    bytes
+        .iter()
+        .fold(0, |sum, b| sum % 65521 * 31 + u64::from(*b))
+        % 65521
 }

@@ -1,4 +1,5 @@
--- `second::room::multiple_of` meets its contract: so far the multiple is from 1 to 4,096.
+-- `second::room::multiple_of` meets its contract. The invariant: the multiple so far is from 1 to 4,096, as 1 is at the start,
+-- and each that is found.
 use Rattle.std.proofs.Common.{◌≤◌}
 use Rattle.second.proofs.room.multiple_of.Given as goal
 
