@@ -65,18 +65,13 @@ fn table_of_the_answer() {
     assert_eq!(codes, header());
 }
 
-/// 0 => with_words(line, b" GOOD"), for the codes that planning and judging a room give.
+/// "GOOD", "NONE", ..: the names of the codes 0, 1, ..
 #[test]
 fn names_that_the_rows_print() {
-    let codes = listed("crates/rows/src/numbers.rt", |line| {
-        let (number, rest) = line.trim().split_once(" => ")?;
-        let name = between(rest, "b\" ", "\"")?;
-        Some((number.parse().ok()?, name.to_string()))
-    });
-    let header = header();
-    for code in codes {
-        assert!(header.contains(&code), "{code:?}");
-    }
+    let words = file("crates/rows/src/words.rt");
+    let names = between(&words, "const NAMES", "];").expect("the names");
+    let names = names.split('"').skip(1).step_by(2).map(str::to_string);
+    assert_eq!((0..).zip(names).collect::<Vec<Named>>(), header());
 }
 
 #[test]
