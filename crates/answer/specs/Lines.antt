@@ -7,7 +7,8 @@
 --   Answered    a room text answered: planned, and the lines of the reply put into a buffer
 --   program_table, program_plan   the table and the plan buffer that the program uses
 --   TextAnswered                a room text answered with them
---   InputAnswered               an input answered, by its first 649 bytes
+--   program_input               the bytes of an input that count
+--   InputAnswered               an input answered, by these
 use Rattle.std.specs.Prelude.{ℕ, ◌+◌, ◌*◌, ◌≤◌, ◌<◌, ◌≡◌, cond, Option, Some, None, List, [], ◌∷◌, length, take, replicate, eqb}
 use mathlib.Core.List.{map, flatten}
 use Rattle.paper.specs.declared.Numbers.{Numbers}
@@ -54,6 +55,10 @@ pub record TextAnswered (text lines₀ : List ℕ) (n : ℕ) (lines : List ℕ) 
   pub place : n ≡ length (printed numbers plan)
   pub same : lines ≡ written (printed numbers plan) lines₀
 
--- the answer to every text that has the input's first 649 bytes
+-- the bytes of an input that count: one more than the longest room text has
+abbrev pub program_input : ℕ
+program_input = 649
+
+-- the answer to every text that begins as the input does
 abbrev pub InputAnswered : List ℕ → List ℕ → ℕ → List ℕ → Type 0
-InputAnswered input lines₀ n lines = (text : List ℕ) → take 649 text ≡ take 649 input → TextAnswered text lines₀ n lines
+InputAnswered input lines₀ n lines = (text : List ℕ) → take program_input text ≡ take program_input input → TextAnswered text lines₀ n lines

@@ -21,7 +21,7 @@ const SLOTS: usize = 1536;
 // The bytes of the longest answer: 29 for the first line, 7 for each slot, 3 for `ff`.
 pub const LINES: usize = 10784;
 
-// The reply to checking the room of a text.
+// The reply to checking the room of a text. This and the two below differ in the memory that they are lent.
 pub fn check_of(text: &[u8]) -> Numbers
     ensures { CheckOfText text.now result }
 {

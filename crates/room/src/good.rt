@@ -37,6 +37,16 @@ impl Deref for GoodRoom {
     }
 }
 
+impl GoodRoom {
+    // A room that is within the limits.
+    pub fn of(room: Room) -> GoodRoom
+        requires { Limits room }
+        ensures { result ≡ room }
+    {
+        GoodRoom { room }
+    }
+}
+
 // The room, if none of the refusals 3 to 8 applies; else the first that does.
 pub fn admit(room: Room) -> Result<GoodRoom, Refusal>
     ensures { Admits room result }
@@ -73,6 +83,14 @@ impl TimedRoom {
         ensures clock { Clock result.room result.times }
     {
         let times = clock(*room);
+        TimedRoom { room, times }
+    }
+
+    // A room within the limits, with R and H that are its own.
+    pub fn with(room: GoodRoom, times: Times) -> TimedRoom
+        requires { Clock room times }
+        ensures { (result.room ≡ room) × (result.times ≡ times) }
+    {
         TimedRoom { room, times }
     }
 

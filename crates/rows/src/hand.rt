@@ -116,7 +116,7 @@ fn past_rows(report: &mut Report) -> io::Result<()> {
     Ok(())
 }
 
-// The lent table and the plan buffer just long enough, and one too short; the greatest common multiple, only checked.
+// The lent table and the plan buffer just long enough, and one too short; periods whose least common multiple is near the limit, only checked.
 fn limit_rows(report: &mut Report) -> io::Result<()> {
     plan_row(report, "A, W 4", A, 4, 16)?;
     plan_row(report, "A, W 3", A, 3, 16)?;

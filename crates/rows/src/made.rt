@@ -127,7 +127,7 @@ fn good_room(seed: u64) -> Room {
 }
 
 // Replaces the load, deadline or period of a job by any byte.
-// A match, here and in the two below: each arm writes another field, and a closure for each says no less.
+// A match, here and in the two below: each arm replaces another part.
 fn spoil_job(job: &mut Job, seed: u64) {
     let number = byte_of(seed, 1);
     match byte_of(seed, 0) % 3 {
