@@ -56,7 +56,7 @@ fn admit(room: Room, table: &[u64]) -> Result<TimedRoom, Undecided>
 fn leave(lent: &mut [u64])
     ensures { lent.new ≡ zeros lent.old }
 {
-    lent.fill(0);
+    table::clear(lent);
 }
 
 // Plan a room in an empty table.
