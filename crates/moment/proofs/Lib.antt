@@ -1,4 +1,5 @@
 pub mod Jobs
+pub mod Moments
 pub mod Links
 pub mod Steps
 pub mod Laws

@@ -1,12 +1,14 @@
 -- The searches of the check, through a test of each entry, and the multiple, by one job more.
+--   holds, fails            a verdict, from what it came to
 --   opposite                the negation of a verdict, negated
 --   least_bad               a search through n entries for one that does not fit ends at the least bad one
 --   first_bad, first_many   so it does where only so many are allowed, and where there are more
+--   many_links              more links than are allowed
 --   multiple_next           the multiple of one job more
 --   next_long               where it passes 4,096
 use Prim.Native.Nat.{ℕ, ◌+◌, ◌≤◌, ◌<◌, ◌%◌}
 use native.Mathlib.Omega.{arith}
-use mathlib.Core.Path.{◌≡◌, refl, subst}
+use mathlib.Core.Path.{◌≡◌, refl, ap, subst}
 use mathlib.Core.Bool.{Bool, true, false, not}
 use denote.Param.Members.{Mut}
 use denote.Ref.{Bor}
@@ -19,13 +21,21 @@ use Rattle.std.specs.declared.ops.Range.{Range}
 use Rattle.std.specs.List.{range_with_len, AllWithin, HoldsAt}
 use Rattle.std.specs.Option.{MatchOption}
 use Rattle.std.specs.Prelude.{Option, None, Some, length}
+use Rattle.laws.proofs.Tests.{T_of}
 use Rattle.laws.proofs.Multiples.{least_more_times}
 use Rattle.paper.specs.declared.Room.{Room}
-use Rattle.paper.specs.Room.{EachJobFits, Multiple, period}
+use Rattle.paper.specs.Room.{EachJobFits, Multiple, GoodLink, link, period}
 use Rattle.paper.specs.Reply.{LeastBad, FirstBad, many, one, Passes}
 use Rattle.room.specs.Checks.{Verdict, LeastMultiple}
 
 -- ---- Bad entries
+
+module _ {fits : Bool} {P : Type 0} (v : Verdict fits P) where
+  pub holds : fits ≡ true → P
+  holds e = v.yes (T_of fits e)
+
+  pub fails : fits ≡ false → ¬ P
+  fails e = v.no (T_of (not fits) (ap not e))
 
 pub opposite : {P : Type 0} {b : Bool} (fits : Bool) → b ≡ not fits → Verdict fits P → Verdict (not b) P
 opposite true e v = rw e v
@@ -60,6 +70,9 @@ module _ (Fine : ℕ → Type 0) (n : ℕ) where
 
 pub first_many : (Fine : ℕ → Type 0) (n most : ℕ) → most < n → FirstBad Fine n most most
 first_many Fine n most l = many l refl
+
+pub many_links : {room : Room} → 16 < room.links → FirstBad (λ k. GoodLink room (link room k)) room.links 16 16
+many_links {room} l = first_many (λ k. GoodLink room (link room k)) room.links 16 l
 
 -- ---- H
 
