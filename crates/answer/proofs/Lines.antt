@@ -4,7 +4,8 @@
 --                                  the lines of no slot, and of one more, and their length
 --   head_length, answer_length     the first line has 29 bytes, each slot 7, and `ff` 3
 --   printed_length, printed_put    the lines of a reply and of the plan in its buffer
-use Prim.Native.Nat.{ℕ, ◌+◌, ◌*◌, ◌<◌}
+--   slots_within                   the plan of a reply fits into the buffer lent
+use Prim.Native.Nat.{ℕ, ◌+◌, ◌*◌, ◌≤◌, ◌<◌}
 use native.Mathlib.Omega.{arith}
 use native.Mathlib.Nat.{zero-add}
 use native.Mathlib.Numerals.{add-one}
@@ -14,13 +15,20 @@ use mathlib.Core.List.{List, [], ◌∷◌, ◌++◌, flatten, append_assoc, app
 use lib.ListN.{length, take, get_or, length-append}
 use lib.Dec.{eqb}
 use lib.Seq.{take-suc}
+use Rattle.std.specs.Prelude.{Ok, Err}
+use Rattle.paper.specs.declared.Room.{Room}
 use Rattle.paper.specs.declared.Numbers.{Numbers}
+use Rattle.paper.specs.declared.Undecided.{Undecided}
+use Rattle.paper.specs.declared.Undecided.TheVariants as undecided
+use Rattle.paper.specs.declared.Planned.TheVariants as planned
 use Rattle.paper.specs.Text.{line, ending}
 use Rattle.paper.specs.Answer.{two_bytes, four_bytes, answer_frame, slot_frame, answer}
+use Rattle.paper.proofs.Refusals.{refused_slots}
 use Rattle.paper.proofs.Lines.{line_length}
-use Rattle.paper.specs.Reply.{written}
+use Rattle.paper.specs.Reply.{undecided_numbers, planned_numbers, PlanAnswer, PlanReply, written}
 use Rattle.digits.specs.Digits.{Puts}
 use Rattle.digits.proofs.Buffers.{puts_written}
+use Rattle.answer.specs.Calls.{PlanOfText, broken, good}
 use Rattle.answer.specs.Lines.{plan_slots, two, slot_lines, printed}
 
 -- ---- The first line
@@ -89,3 +97,21 @@ module _ (N : Numbers) (plan : List ℕ) {slots : List ℕ} (e : slots ≡ take 
       → (n ≡ length (printed N plan)) × (lines ≡ written (printed N plan) lines₀)
   printed_put {lines₀} p =
       (p.place ∙ zero-add _ ∙ ap length printed_is, puts_written p ∙ ap (λ (l : List ℕ). written l lines₀) printed_is)
+
+-- ---- The plan fits into its buffer
+
+undecided_slots : (d : Undecided) → plan_slots (undecided_numbers d) ≡ 0
+undecided_slots (undecided.Refused r) = refused_slots r
+undecided_slots undecided.Table = refl
+undecided_slots undecided.Room = refl
+
+planned_within : {room : Room} {table₀ plan₀ table plan : List ℕ} (r : PlanAnswer) → PlanReply room table₀ plan₀ r table plan
+    → plan_slots (planned_numbers r) ≤ length plan₀
+planned_within (Ok (planned.Good n a c)) x = let g = x.says in omega (arith, g.cycle, g.fits)
+planned_within (Ok (planned.None n)) x = omega arith
+planned_within (Ok (planned.Short i)) x = omega arith
+planned_within (Err d) x = omega (arith, undecided_slots d)
+
+pub slots_within : {text table₀ plan₀ table plan : List ℕ} {N : Numbers} → PlanOfText text table₀ plan₀ table plan N → plan_slots N ≤ length plan₀
+slots_within (broken b x e f) = omega (arith, ap plan_slots e)
+slots_within (good room x y) = omega (arith, ap plan_slots y.told, planned_within y.answer y.promised)

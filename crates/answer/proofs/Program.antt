@@ -1,14 +1,17 @@
 -- The program's answer: a plan is no longer than the count, which the table holds; so with as many slots as configurations no plan is too long.
+--   program_fits          the lines of every answer fit into 10,784 bytes
+--   text_answered         so a text is answered in buffers of the program's sizes
+--   text_within           and the bytes of the answer lie in theirs
 --   program_one           one answer
 --   input_answered        an input is answered by its first 649 bytes
 --   program_never_short   it is never SHORT
 use Prim.Native.Nat.{ℕ, ◌≤◌, ◌<◌}
 use native.Mathlib.Omega.{arith}
-use mathlib.Core.Path.{◌≡◌, sym, ap, ◌∙◌, subst}
+use mathlib.Core.Path.{◌≡◌, refl, sym, ap, ◌∙◌, subst}
 use mathlib.Core.Logic.{◌≢◌}
 use mathlib.Core.List.{List}
-use lib.ListN.{length, take, length-replicate}
-use Rattle.std.specs.Prelude.{Ok, Err}
+use lib.ListN.{length, take, drop, length-take, length-append, length-replicate}
+use Rattle.std.specs.Prelude.{Ok, Err, Option, Some, None, IsSome}
 use Rattle.paper.specs.declared.Room.{Room}
 use Rattle.paper.specs.declared.Numbers.{Numbers}
 use Rattle.paper.specs.declared.Refusal.{Refusal}
@@ -21,9 +24,33 @@ use Rattle.paper.specs.Answer.{program_slots}
 use Rattle.paper.proofs.Uniques.{plan_feasible, plan_one as room_plan_one}
 use Rattle.paper.proofs.Plans.{plan_exists}
 use Rattle.answer.specs.Calls.{PlanOfText, broken, good}
-use Rattle.answer.specs.Lines.{printed, program_table, program_plan, TextAnswered, InputAnswered}
+use Rattle.answer.specs.Lines.{plan_slots, printed, Answered, program_table, program_plan, TextAnswered, InputAnswered}
+use Rattle.answer.proofs.Lines.{answer_length, slots_within}
 use Rattle.answer.proofs.Enough.{text_near}
 use Rattle.answer.proofs.One.{plan_one}
+
+-- ---- Room for every answer
+
+module _ {text : List ℕ} where
+  answer_fits : {table plan : List ℕ} {N : Numbers} → PlanOfText text program_table program_plan table plan N → length (printed N plan) ≤ 10784
+  unfolding printed
+  answer_fits {plan = plan} {N = N} p =
+      omega (arith, slots_within p, length-replicate {A = ℕ} program_slots 0, answer_length N (take (plan_slots N) plan), length-take (plan_slots N) plan)
+
+  pub program_fits : {lines₀ table plan lines : List ℕ} (n : Option ℕ) → 10784 ≤ length lines₀
+      → Answered text program_table program_plan lines₀ n table plan lines → IsSome n
+  program_fits (Some n) h a = refl
+  program_fits None h a = absurd (omega (arith, answer_fits a.says, a.prints.0))
+
+  pub text_answered : {lines₀ table plan lines : List ℕ} {n : ℕ}
+      → Answered text program_table program_plan lines₀ (Some n) table plan lines → TextAnswered text lines₀ n lines
+  text_answered {table = table} {plan = plan} a =
+      record { numbers = a.numbers; table = table; plan = plan; says = a.says; place = a.prints.1; same = a.prints.2 }
+
+pub text_within : {text lines₀ lines : List ℕ} {n : ℕ} → TextAnswered text lines₀ n lines → n ≤ length lines
+text_within {lines₀ = lines₀} a =
+    let l = printed a.numbers a.plan in
+    omega (arith, a.place, ap length a.same, length-append l (drop (length l) lines₀))
 
 -- ---- One answer
 

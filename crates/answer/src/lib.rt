@@ -70,8 +70,7 @@ pub fn answer_text(text: &[u8], lines: &mut [u8; LINES]) -> usize
 {
     let mut table = [0u64; TABLE];
     let mut plan = [0u16; SLOTS];
-    let numbers = plan_of(text, &mut table, &mut plan);
-    put_parts(numbers, slots_of(numbers, &plan), lines)
+    put_answer(text, &mut table, &mut plan, lines).unwrap()
 }
 
 // Plans the room of a text, and puts the lines of the answer at the start of a buffer, if they fit: how many bytes they take.

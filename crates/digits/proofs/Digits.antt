@@ -1,6 +1,7 @@
 -- Laws of digits at a place of a text: what the tests of the functions say of it. A function looks at the rest of the text from the place on.
---   byte_short, byte_first_none, byte_second_none, byte_found
---                                   the byte at a place: the rest is too short, one of its first two bytes is no digit, both are
+--   digit_between                   no digit stands between 9 and a
+--   byte_beyond, byte_short, byte_first_none, byte_second_none, byte_found
+--                                   the byte at a place: the text ends before it, the rest is too short, one of its first two bytes is no digit, both are
 --   stands_by_rest                  a part stands at the place where the rest starts with it
 --   byte_at_some, byte_at_none      the byte at a place is that of the paper's laws of lines
 --   stands_close, close_stands      byte 0a at a place
@@ -26,11 +27,22 @@ use Rattle.std.proofs.lemmas.List.{ext_get_or}
 use Rattle.laws.proofs.Tests.{lt_or_le}
 use Rattle.paper.specs.Text.{digit, two_digits, ending}
 use Rattle.paper.specs.Reading.{byte, byte_at, Ending}
-use Rattle.paper.proofs.Digits.{byte_digits, digits_byte}
+use Rattle.paper.proofs.Digits.{value_between, value_digit, byte_digits, digits_byte, two_digits_length}
 use Rattle.paper.proofs.Lines.{byte_at_beyond, line_at_none, line_within, ending_within}
 use Rattle.digits.specs.Digits.{DigitValue, Stands, ByteAt}
 
+-- ---- One digit
+
+pub digit_between : (d : ℕ) → d < 16 → 0x3a ≤ digit d → 0x61 ≤ digit d
+digit_between d l g = ⊎_elim
+    (λ (h : digit d < 0x61). absurd (omega (arith, value_digit d l, value_between (digit d) g h)))
+    (λ (h : 0x61 ≤ digit d). h)
+    (lt_or_le (digit d) 0x61)
+
 -- ---- Two digits at a place
+
+pub byte_beyond : {text : List ℕ} {at : ℕ} → length text < at + 2 → ByteAt text at None
+byte_beyond h x l s = omega (arith, s.within, two_digits_length x)
 
 two_stand : {text : List ℕ} {at : ℕ} (x : ℕ)
     → at + 2 ≤ length text → get_or text at 0 ≡ digit (x / 16) → get_or text (at + 1) 0 ≡ digit (x % 16) → Stands text at (two_digits x)

@@ -21,7 +21,7 @@
 --                                    the call that plans: all arguments at entry, the answer, every lent buffer at exit
 --   JudgeGood, JudgeOut, JudgeSays, JudgeReply
 --                                    the call that judges, likewise
---   ReadReply                        the reader
+--   ReadSays, ReadReply              the reader
 --   WriteGood, WriteShort, WriteSays, WriteReply
 --                                    the writer
 use Rattle.std.specs.Prelude.{ℕ, ◌+◌, ◌≤◌, ◌<◌, ◌/◌, ◌≡◌, cond, ◌&&◌, List, ◌++◌, length, drop, replicate, leb, Result, Ok, Err}
@@ -313,9 +313,12 @@ pub record JudgeReply (room : Room) (past table₀ : List ℕ) (r : JudgeAnswer)
 -- ---- Read
 
 -- the reader gives only 0 and 2, and on 2 no room; place: first bad line, from 0
+abbrev pub ReadSays : List ℕ → Numbers → ReadAnswer → Type 0
+ReadSays text N (Ok room) = Read text room
+ReadSays text N (Err b) = FirstBadLine text N.place
+
 abbrev pub ReadReply : List ℕ → ReadAnswer → Type 0
-ReadReply text (Ok room) = Read text room
-ReadReply text (Err b) = FirstBadLine text b.place
+ReadReply text r = ReadSays text (reading_numbers r) r
 
 -- ---- Write
 

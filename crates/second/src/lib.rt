@@ -29,7 +29,7 @@ pub fn check(room: Room) -> Result<(), Refusal> {
 fn decide(room: Room, w: usize) -> Result<Result<Centre, Undecided>, TooLarge> {
     let clock = match clock_of(&room) {
         Ok(clock) => clock,
-        Err(refusal) => return Ok(Err(refusal.into())),
+        Err(refusal) => return Ok(Err(Undecided::Refused(refusal))),
     };
     match Centre::of(room, clock, w.min(MOST)) {
         Ok(centre) => Ok(Ok(centre)),
