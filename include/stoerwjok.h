@@ -12,7 +12,7 @@
    What a call keeps:
    - It reads and writes its buffers and its stack, and nothing else: no heap, no variables of its own, no input or output.
      Nothing is kept between calls. Of the C library it needs memcpy and memset.
-   - It returns for all arguments. The deepest, stoerwjok_judge, was measured to take 2,808 bytes of stack
+   - It returns for all arguments. The deepest, stoerwjok_judge, was measured to take 2,840 bytes of stack
      (docs/SPEED.md has each call; bench/stack.c measures). */
 
 #ifndef STOERWJOK_H
